@@ -1,0 +1,9 @@
+pub mod Codes
+pub mod Days
+pub mod Groups
+pub mod Kinds
+pub mod MeasurementClasses
+pub mod Padding
+pub mod Rows
+pub mod Sets
+pub mod Statuses

@@ -1,0 +1,9 @@
+// What is kept of a metering system: dated rows of ten kinds, and the few things
+// that are done with them on every layer above.
+pub mod consumption;
+pub mod dated;
+pub mod days;
+pub mod kinds;
+pub mod letters;
+pub mod row;
+pub mod states;
