@@ -1,0 +1,10 @@
+pub mod Commands
+pub mod Faults
+pub mod Files
+pub mod Format
+pub mod Numbers
+pub mod Ranges
+pub mod Records
+pub mod Stages
+pub mod WellFormed
+pub mod Written

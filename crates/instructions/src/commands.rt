@@ -1,0 +1,74 @@
+// The commands of an instruction file.
+ghost use mathlib.Core.Path.{_≡_};
+ghost use Rattle.instructions.specs.Commands.{letterOf};
+use rows::kinds::Kind;
+use rows::row::Row;
+
+// Who sends instruction files, by an id from 1 to 65,535.
+#[derive(Clone, Copy, PartialEq)]
+pub enum Source {
+    // a registration agent, letter S
+    Agent(u16),
+    // a data collector, letter C
+    Collector(u16),
+}
+
+// What a file opens with: its source, the file's number among those of that source, and how
+// many instructions follow.
+#[derive(Clone, Copy, PartialEq)]
+pub struct Header {
+    pub source: Source,
+    pub number: u32,
+    pub count: u16,
+}
+
+// What an instruction opens with: the metering system that it is for, its number among those
+// of its source, and the significant day, from which on it says what holds.
+#[derive(Clone, Copy, PartialEq)]
+pub struct Heading {
+    pub system: u64,
+    pub number: u32,
+    pub day: u16,
+}
+
+// One command with its operands.
+#[derive(Clone, Copy)]
+pub enum Command {
+    // H
+    Header(Header),
+    // I
+    Instruction(Heading),
+    // a record, by the letter of its kind
+    Record(Row),
+    // Z
+    InstructionEnd,
+    // X
+    FileEnd,
+}
+
+// What the letter of a command announces.
+#[derive(Clone, Copy)]
+pub(crate) enum Letter {
+    Header,
+    Instruction,
+    Record(Kind),
+    InstructionEnd,
+    FileEnd,
+}
+
+impl Letter {
+    pub(crate) fn from_char(letter: char) -> Option<Letter>
+        ensures { λ r. ⌜ r ≡ letterOf letter ⌝ }
+    {
+        match letter {
+            'H' => Some(Letter::Header),
+            'I' => Some(Letter::Instruction),
+            'Z' => Some(Letter::InstructionEnd),
+            'X' => Some(Letter::FileEnd),
+            _ => match Kind::from_letter(letter) {
+                Some(kind) => Some(Letter::Record(kind)),
+                None => None,
+            },
+        }
+    }
+}
