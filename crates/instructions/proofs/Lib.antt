@@ -1,2 +1,4 @@
 pub mod Inversions
+pub mod Onward
 pub mod SetReads
+pub mod Widths

@@ -1,6 +1,7 @@
 -- A whole file: its first fault, or what it says.
 use mathlib.Core.List.{List, [], _∷_}
 use Prim.Native.Nat.{ℕ, zero, suc, _+_, _-_}
+use lib.ListN.{drop}
 use Rattle.std.specs.declared.option.Option.{Option}
 use Rattle.std.specs.declared.option.Option.the-variants.{Some, None}
 use Rattle.std.specs.declared.result.Result.{Result}
@@ -16,7 +17,7 @@ use Rattle.instructions.specs.declared.faults.Cause.{Cause}
 use Rattle.instructions.specs.declared.faults.Cause.the-variants.{CutShort, OutOfPlace}
 use Rattle.instructions.specs.declared.faults.FileFault.{FileFault}
 use Rattle.instructions.specs.Commands.{commandIn, widthOf}
-use Rattle.instructions.specs.Stages.{Stage, opening, between, within, closed, after}
+use Rattle.instructions.specs.Stages.{Stage, opening, between, within, closed, headerIn, after}
 
 -- an instruction: what it opens with, and its records
 pub data FileInstruction : Type 0 where
@@ -48,6 +49,10 @@ faultFrom zero place stage (x ∷ xs) =
       ]
     ]
 
+-- the first fault of what is left at a place of a file
+abbrev pub onward : List ℕ → ℕ → Stage → Option FileFault
+onward xs place stage = faultFrom 0 place stage (drop place xs)
+
 abbrev pub firstFault : List ℕ → Option FileFault
 firstFault xs = faultFrom 0 0 opening xs
 
@@ -78,14 +83,15 @@ instructionsOf (Record r ∷ cs) = instructionsOf cs
 instructionsOf (InstructionEnd ∷ cs) = instructionsOf cs
 instructionsOf (FileEnd ∷ cs) = instructionsOf cs
 
+-- a header, or a blank one
+abbrev pub orBlank : Option headers.Header → headers.Header
+orBlank None = record { source = Agent 0; number = 0; count = 0 }
+orBlank (Some h) = h
+
 -- the header that a file opens with; a blank one where it opens with none
 abbrev pub headerOf : List Command → headers.Header
-headerOf [] = record { source = Agent 0; number = 0; count = 0 }
-headerOf (Header h ∷ cs) = h
-headerOf (Instruction h ∷ cs) = record { source = Agent 0; number = 0; count = 0 }
-headerOf (Record r ∷ cs) = record { source = Agent 0; number = 0; count = 0 }
-headerOf (InstructionEnd ∷ cs) = record { source = Agent 0; number = 0; count = 0 }
-headerOf (FileEnd ∷ cs) = record { source = Agent 0; number = 0; count = 0 }
+headerOf [] = orBlank None
+headerOf (c ∷ cs) = orBlank (headerIn c)
 
 -- what a list of commands says
 abbrev pub fileOf : List Command → File
@@ -99,14 +105,15 @@ unless (Some fault) file = Err fault
 abbrev pub readFile : List ℕ → Result File FileFault
 readFile xs = unless (firstFault xs) (fileOf (commandsIn xs))
 
+-- the source of a header
+abbrev pub sourceOf : Option headers.Header → Option Source
+sourceOf None = None
+sourceOf (Some h) = Some (h .source)
+
 -- the source that the first command names
 abbrev pub named : Result Command Cause → Option Source
 named (Err cause) = None
-named (Ok (Header h)) = Some (h .source)
-named (Ok (Instruction h)) = None
-named (Ok (Record r)) = None
-named (Ok InstructionEnd) = None
-named (Ok FileEnd) = None
+named (Ok c) = sourceOf (headerIn c)
 
 -- which source a file belongs to: that of its header, or none if its first command is no header or has a cause
 abbrev pub sourceOfFile : List ℕ → Option Source

@@ -2,6 +2,9 @@
 // say, or the cause and the place of the first fault in them.
 pub mod commands;
 pub mod faults;
+pub mod file;
+mod instruction;
 mod operands;
+mod reader;
 mod reading;
 mod records;
