@@ -1,4 +1,5 @@
 pub mod Inversions
 pub mod Onward
 pub mod SetReads
+pub mod Walked
 pub mod Widths

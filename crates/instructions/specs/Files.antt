@@ -65,23 +65,40 @@ commandsFrom zero (x ∷ xs) = elim (commandIn (x ∷ xs)) [ Err cause ↦ [] | 
 abbrev pub commandsIn : List ℕ → List Command
 commandsIn xs = commandsFrom 0 xs
 
+-- the record that a command is, if it is one
+abbrev pub recordIn : Command → Option Row
+recordIn (Header h) = None
+recordIn (Instruction h) = None
+recordIn (Record r) = Some r
+recordIn InstructionEnd = None
+recordIn FileEnd = None
+
+-- what a command opens an instruction with, if it opens one
+abbrev pub headingIn : Command → Option Heading
+headingIn (Header h) = None
+headingIn (Instruction h) = Some h
+headingIn (Record r) = None
+headingIn InstructionEnd = None
+headingIn FileEnd = None
+
+-- something and what comes behind it; nothing, and nothing comes behind
+abbrev pub taken : {X : Type 0} → Option X → List X → List X
+taken None xs = []
+taken (Some x) xs = x ∷ xs
+
 -- the records at the front of a list of commands
 abbrev pub recordsOf : List Command → List Row
 recordsOf [] = []
-recordsOf (Header h ∷ cs) = []
-recordsOf (Instruction h ∷ cs) = []
-recordsOf (Record r ∷ cs) = r ∷ recordsOf cs
-recordsOf (InstructionEnd ∷ cs) = []
-recordsOf (FileEnd ∷ cs) = []
+recordsOf (c ∷ cs) = taken (recordIn c) (recordsOf cs)
+
+abbrev pub begun : Option Heading → List Row → List FileInstruction → List FileInstruction
+begun None rs is = is
+begun (Some h) rs is = change h rs ∷ is
 
 -- an instruction is what opens it, and the records behind that
 abbrev pub instructionsOf : List Command → List FileInstruction
 instructionsOf [] = []
-instructionsOf (Header h ∷ cs) = instructionsOf cs
-instructionsOf (Instruction h ∷ cs) = change h (recordsOf cs) ∷ instructionsOf cs
-instructionsOf (Record r ∷ cs) = instructionsOf cs
-instructionsOf (InstructionEnd ∷ cs) = instructionsOf cs
-instructionsOf (FileEnd ∷ cs) = instructionsOf cs
+instructionsOf (c ∷ cs) = begun (headingIn c) (recordsOf cs) (instructionsOf cs)
 
 -- a header, or a blank one
 abbrev pub orBlank : Option headers.Header → headers.Header

@@ -10,5 +10,6 @@ pub mod Ranges
 pub mod Records
 pub mod Stages
 pub mod Turns
+pub mod Walks
 pub mod WellFormed
 pub mod Written

@@ -2,6 +2,7 @@
 ghost use mathlib.Core.Path.{_≡_};
 ghost use Prim.Native.Nat.{_≤_};
 ghost use Rattle.instructions.specs.Commands.{letterOf, fixedSize, setSize, widthOf};
+ghost use Rattle.instructions.specs.Files.{headingIn, recordIn};
 ghost use Rattle.instructions.specs.Stages.{headerIn};
 use rows::kinds::Kind;
 use rows::row::Row;
@@ -68,6 +69,26 @@ impl Command {
     {
         match self {
             Command::Header(header) => Some(*header),
+            _ => None,
+        }
+    }
+
+    // What the command opens an instruction with, if it opens one.
+    pub fn heading(&self) -> Option<Heading>
+        ensures { λ r. ⌜ r ≡ headingIn (now (self .entry)) ⌝ }
+    {
+        match self {
+            Command::Instruction(heading) => Some(*heading),
+            _ => None,
+        }
+    }
+
+    // The record that the command is, if it is one.
+    pub fn record(&self) -> Option<Row>
+        ensures { λ r. ⌜ r ≡ recordIn (now (self .entry)) ⌝ }
+    {
+        match self {
+            Command::Record(row) => Some(*row),
             _ => None,
         }
     }

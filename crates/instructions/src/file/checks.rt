@@ -1,14 +1,15 @@
 // Reading a whole file: its header, as many instructions as that says, its end, and nothing behind.
 ghost use mathlib.Core.Path.{_≡_};
 ghost use Prim.Native.Nat.{ℕ};
-ghost use lib.ListN.{drop};
+ghost use lib.ListN.{length, drop};
 ghost use Rattle.std.specs.Results.{Cases};
 ghost use Rattle.std.specs.declared.option.Option.the-variants.{Some, None};
 ghost use Rattle.std.specs.declared.result.Result.the-variants.{Ok};
 ghost use Rattle.instructions.specs.Commands.{commandIn};
 ghost use Rattle.instructions.specs.Faults.{outOfPlace};
 ghost use Rattle.instructions.specs.Files.{onward, readFile, headerOf, commandsIn};
-ghost use Rattle.instructions.specs.Meanings.{said};
+ghost use Rattle.instructions.specs.Meanings.{meantFile, said};
+ghost use Rattle.instructions.specs.Walks.{instructionsLeft};
 ghost use Rattle.instructions.specs.Stages.{opening, between, closed, fromBetween};
 ghost use Rattle.instructions.specs.Parts.{partStage};
 ghost use Rattle.instructions.specs.declared.commands.Command.the-variants.{Header as IsHeader};
@@ -21,6 +22,7 @@ use crate::faults::FileFromReader;
 use crate::file::InstructionFile;
 use crate::instruction::read_instruction;
 use crate::reader::Reader;
+use crate::walking::Instructions;
 
 fn misplaced(place: usize) -> FileFault
     ensures { λ r. ⌜ r ≡ outOfPlace place ⌝ }
@@ -116,5 +118,19 @@ impl<'a> InstructionFile<'a> {
         ensures { λ r. ⌜ r ≡ now (self .entry) .header ⌝ }
     {
         self.header
+    }
+
+    // Its instructions, from the first on.
+    pub fn instructions(&self) -> Instructions<'a>
+        ensures { λ r. ⌜ instructionsLeft r ≡ meantFile (now (self .entry)) .instructions ⌝ }
+    {
+        Instructions::over(self.bytes)
+    }
+
+    // How many bytes the file has.
+    pub fn len(&self) -> usize
+        ensures { λ r. ⌜ r ≡ length (now (now (self .entry) .bytes)) ⌝ }
+    {
+        self.bytes.len()
     }
 }
