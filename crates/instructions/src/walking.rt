@@ -2,6 +2,8 @@
 mod steps;
 
 use crate::commands::Heading;
+pub use steps::InstructionsIterator;
+pub use steps::RecordsIterator;
 
 // What is left of a file, command by command.
 #[derive(Clone, Copy)]
