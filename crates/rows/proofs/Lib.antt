@@ -1,1 +1,4 @@
+pub mod Cuts
+pub mod Latest
 pub mod SetPaths
+pub mod Walks

@@ -1,5 +1,6 @@
 pub mod Codes
 pub mod Days
+pub mod Finding
 pub mod Groups
 pub mod Kinds
 pub mod MeasurementClasses

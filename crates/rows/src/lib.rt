@@ -3,6 +3,7 @@
 pub mod consumption;
 pub mod dated;
 pub mod days;
+pub mod finding;
 pub mod kept;
 pub mod kinds;
 pub mod letters;
