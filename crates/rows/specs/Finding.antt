@@ -75,6 +75,10 @@ Ascending starts = (i j : ℕ) → i < j → j < length starts → getD starts i
 abbrev pub StartedBefore : {X : Type 0} → (X → ℕ) → ℕ → List X → ℕ → Type 0
 StartedBefore start cut rows count = Ascending (map start rows) → take count rows ≡ kept-by (λ row. ltb (start row) cut) rows
 
--- a row with this start can stand behind the first `count`: there is a place left, and it starts after the one before it
-abbrev pub Follows : ℕ → ℕ → List ℕ → Type 0
-Follows start count starts = (count < length starts) × (0 < count → getD starts (count - 1) 0 < start)
+-- the row starts after the one before it, if it stands behind the first `count`
+abbrev pub StartsAfter : {X : Type 0} → (X → ℕ) → X → ℕ → List X → Type 0
+StartsAfter start row count rows = 0 < count → getD (map start rows) (count - 1) 0 < start row
+
+-- the row can stand behind the first `count`: there is a place left, and it starts after the one before it
+abbrev pub Follows : {X : Type 0} → (X → ℕ) → X → ℕ → List X → Type 0
+Follows start row count rows = (count < length rows) × StartsAfter start row count rows

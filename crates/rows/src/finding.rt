@@ -55,16 +55,19 @@ pub fn cut<T: Dated>(rows: &[T], day: u16) -> &[T]
     &rows[0..kept(rows, day)]
 }
 
-// Writes the row behind the first `count` rows. Refuses, and changes nothing, if no place is left or
-// the row does not start after the one before it.
+// Whether a row can stand behind the first `count`: a place is left, and it starts after the one before it.
+pub fn follows<T: Dated>(rows: &[T], count: usize, row: &T) -> bool
+    ensures { λ r. ⌜ Decides r (Follows startOf (now (row .entry)) count (now (rows .entry))) ⌝ }
+{
+    count < rows.len() && (count == 0 || rows[count - 1].start() < row.start())
+}
+
+// Writes the row behind the first `count`, if it can stand there; else nothing changes.
 pub fn add<T: Dated + Copy>(rows: &mut [T], count: usize, row: T) -> bool
-    ensures answer { λ r. ⌜ Decides r (Follows (T·Dated .startOf row) count (map (T·Dated .startOf) (now (rows .entry)))) ⌝ }
+    ensures answer { λ r. ⌜ Decides r (Follows (T·Dated .startOf) row count (now (rows .entry))) ⌝ }
     ensures after { λ r. ⌜ now (rows .exit) ≡ cond r (set (now (rows .entry)) count row) (now (rows .entry)) ⌝ }
 {
-    if count >= rows.len() {
-        return false;
-    }
-    if count > 0 && row.start() <= rows[count - 1].start() {
+    if !follows(rows, count, &row) {
         return false;
     }
     rows[count] = row;
