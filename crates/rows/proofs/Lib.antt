@@ -1,4 +1,5 @@
 pub mod Cuts
 pub mod Latest
+pub mod Searches
 pub mod SetPaths
 pub mod Walks

@@ -7,4 +7,5 @@ pub mod MeasurementClasses
 pub mod Padding
 pub mod Rows
 pub mod Sets
+pub mod Spans
 pub mod Statuses

@@ -8,4 +8,5 @@ pub mod kept;
 pub mod kinds;
 pub mod letters;
 pub mod row;
+pub mod spans;
 pub mod states;
