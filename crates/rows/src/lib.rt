@@ -7,6 +7,7 @@ pub mod finding;
 pub mod kept;
 pub mod kinds;
 pub mod letters;
+pub mod regimes;
 pub mod row;
 pub mod spans;
 pub mod states;
