@@ -3,3 +3,4 @@ pub mod Latest
 pub mod Searches
 pub mod SetPaths
 pub mod Walks
+pub mod WindowRows

@@ -9,3 +9,4 @@ pub mod Rows
 pub mod Sets
 pub mod Spans
 pub mod Statuses
+pub mod Windows

@@ -11,3 +11,4 @@ pub mod regimes;
 pub mod row;
 pub mod spans;
 pub mod states;
+pub mod window;
