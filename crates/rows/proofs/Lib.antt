@@ -1,3 +1,4 @@
+pub mod Ascents
 pub mod Cuts
 pub mod Latest
 pub mod Searches

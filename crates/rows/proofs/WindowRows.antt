@@ -1,12 +1,13 @@
 -- The rows of a window are the first of its places.
 use mathlib.Core.Path.{_≡_, refl, sym, ap, subst, _∙_}
-use mathlib.Core.List.{List, map}
-use Prim.Native.Nat.{ℕ, _-_, _<_, _≤_}
+use mathlib.Core.List.{List, [], _∷_, _++_, map}
+use Prim.Native.Nat.{ℕ, _+_, _-_, _<_, _≤_}
 use native.Mathlib.Omega.{arith}
-use lib.ListN.{length, getD, take}
-use Rattle.std.proofs.shelf.Lists.{length-take-le, take-map, getD-take}
-use Rattle.rows.specs.Finding.{StartsAfter, Follows}
+use lib.ListN.{length, getD, set, take}
+use Rattle.std.proofs.shelf.Lists.{length-take-le, take-map, take-more-set, getD-take}
+use Rattle.rows.specs.Finding.{Ascending, StartsAfter, Follows}
 use Rattle.rows.specs.Windows.{Addable}
+use Rattle.rows.proofs.Ascents.{row-added}
 
 module _ {X : Type 0} (start : X → ℕ) (row : X) (count most : ℕ) (places : List X) (long : length places ≡ most) (within : count ≤ most) where
   counted : length (take count places) ≡ count
@@ -23,3 +24,9 @@ module _ {X : Type 0} (start : X → ℕ) (row : X) (count most : ℕ) (places :
   follows-from a =
       let b : (count < most) × StartsAfter start row count (take count places) = subst (λ n. (n < most) × StartsAfter start row n (take count places)) counted a in
       (omega arith, λ some. omega (arith, b .1 some, same-before some))
+
+  pub added : Follows start row count places → take (count + 1) (set places count row) ≡ take count places ++ row ∷ []
+  added f = take-more-set places count row (f .0)
+
+  pub added-ascends : Follows start row count places → Ascending (map start (take count places)) → Ascending (map start (take (count + 1) (set places count row)))
+  added-ascends f up = subst (λ rows. Ascending (map start rows)) (sym (added f)) (row-added start (take count places) up row (addable f .1))

@@ -12,7 +12,7 @@ use Rattle.std.specs.declared.option.Option.{Option}
 use Rattle.std.specs.declared.option.Option.the-variants.{Some, None}
 use Rattle.std.specs.shelf.Lists.{kept-by}
 
--- the last place of a list, one further on, or the place put before them if there is none
+-- with one start more in front: a place moves one on, and where there was none it is the first if that start counts
 abbrev pub further : Bool → Option ℕ → Option ℕ
 further here (Some k) = Some (suc k)
 further here None = cond here (Some 0) None
@@ -58,7 +58,7 @@ rowOn start last day rows = rowAt rows (inEffect day (map (term start last) rows
 abbrev pub started : {X : Type 0} → (X → ℕ) → ℕ → List X → List X
 started start day = kept-by (λ row. leb (start row) day)
 
--- the row at this place depends only on the rows that start by the day: any others of which the same start by then have it in effect
+-- the row at the place depends only on the rows that start by the day: it is in effect among any others of which the same start by then
 abbrev pub ByStarted : {X : Type 0} → (X → ℕ) → (X → ℕ) → ℕ → List X → Option ℕ → Type 0
 ByStarted {X} start last day rows place = (others : List X) → started start day rows ≡ started start day others → rowAt rows place ≡ rowOn start last day others
 
@@ -71,11 +71,11 @@ before cut (s ∷ ss) = cond (leb cut s) 0 (suc (before cut ss))
 abbrev pub Ascending : List ℕ → Type 0
 Ascending starts = (i j : ℕ) → i < j → j < length starts → getD starts i 0 < getD starts j 0
 
--- the first rows, so many, are those that start before the cut day, if starts ascend
+-- where starts ascend, the first `count` rows are exactly those that start before the cut day
 abbrev pub StartedBefore : {X : Type 0} → (X → ℕ) → ℕ → List X → ℕ → Type 0
 StartedBefore start cut rows count = Ascending (map start rows) → take count rows ≡ kept-by (λ row. ltb (start row) cut) rows
 
--- the row starts after the one before it, if it stands behind the first `count`
+-- behind the first `count` rows, the row starts after the one before it
 abbrev pub StartsAfter : {X : Type 0} → (X → ℕ) → X → ℕ → List X → Type 0
 StartsAfter start row count rows = 0 < count → getD (map start rows) (count - 1) 0 < start row
 

@@ -26,6 +26,7 @@ pub struct Window<T, const MAX: usize> {
     ghost within: { count ≤ MAX },
 }
 
+// A window of each kind has as many places as rows of the kind are kept at most.
 pub type Registrations = Window<State<Supplier>, { STATE_MAXIMUM }>;
 
 pub type Appointments = Window<Appointment, { Appointment::MAXIMUM }>;

@@ -6,7 +6,7 @@ ghost use Prim.Native.Nat.{_<_};
 ghost use lib.ListN.{length, take};
 ghost use Rattle.std.specs.Options.{Cases as BySome};
 ghost use Rattle.std.specs.Orderings.{Decides};
-ghost use Rattle.rows.specs.Finding.{term, inEffect, before};
+ghost use Rattle.rows.specs.Finding.{term, inEffect, before, Ascending};
 ghost use Rattle.rows.specs.Windows.{rowsOf, Addable};
 use crate::finding;
 use crate::kept::Kept;
@@ -27,7 +27,7 @@ impl<T: Kept, const MAX: usize> Window<T, MAX> {
     pub fn count(&self) -> usize
         ensures { λ r. ⌜ r ≡ length (rowsOf (now (self .entry))) ⌝ }
     {
-        self.count
+        self.rows().len()
     }
 
     // The rows, in the order in which they were added.
@@ -43,6 +43,7 @@ impl<T: Kept, const MAX: usize> Window<T, MAX> {
     pub fn add(&mut self, row: T) -> bool
         ensures answer { λ r. ⌜ Decides r (Addable (T·Dated .startOf) MAX row (rowsOf (now (self .entry)))) ⌝ }
         ensures after { λ r. ⌜ rowsOf (now (self .exit)) ≡ cond r (rowsOf (now (self .entry)) ++ row ∷ []) (rowsOf (now (self .entry))) ⌝ }
+        ensures ascends { λ _. ⌜ (Ascending (map (T·Dated .startOf) (rowsOf (now (self .entry)))) → Ascending (map (T·Dated .startOf) (rowsOf (now (self .exit))))) ⌝ }
     {
         let count = self.count;
         if !finding::follows(&self.rows[..], count, &row) {
@@ -55,7 +56,8 @@ impl<T: Kept, const MAX: usize> Window<T, MAX> {
 
     // Keeps the rows that stand before the first that starts on or after the cut day.
     pub fn cut(&mut self, day: u16)
-        ensures { λ _. ⌜ rowsOf (now (self .exit)) ≡ take (before day (map (T·Dated .startOf) (rowsOf (now (self .entry))))) (rowsOf (now (self .entry))) ⌝ }
+        ensures after { λ _. ⌜ rowsOf (now (self .exit)) ≡ take (before day (map (T·Dated .startOf) (rowsOf (now (self .entry))))) (rowsOf (now (self .entry))) ⌝ }
+        ensures ascends { λ _. ⌜ (Ascending (map (T·Dated .startOf) (rowsOf (now (self .entry)))) → Ascending (map (T·Dated .startOf) (rowsOf (now (self .exit))))) ⌝ }
     {
         let count = finding::kept(self.rows(), day);
         self.count = count;

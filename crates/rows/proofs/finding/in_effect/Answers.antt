@@ -21,7 +21,7 @@ returns-then-day-last g c =
     let last = g .T·Dated .lastOf in
     let h : c .in-Some .i < length (c .args .rows .now) = omega (arith, c .in-Some .ensures tt .law .0, length-map (c .args .rows .now) start) in
     let e : Some (c .in-Some .i) ≡ inEffect (c .args .day) (map (term start last) (c .args .rows .now)) =
-    effect-here start last (c .args .day) (c .args .rows .now) (c .in-Some .i) (c .index-rows-i .result) h (c .index-rows-i .is) (c .in-Some .ensures tt .value) (rw (c .last .ensures) at (c .if-day-last .taken)) in
+    effect-here start last (c .args .day) (c .args .rows .now) (c .in-Some .i) (c .index-rows-i .result) h (c .index-rows-i .is) (c .in-Some .ensures tt .value) (omega arith) in
     record { value = e; within = h; started = by-started start last (c .args .day) (c .args .rows .now) _ e }
 
 pub returns-else-day-last : need.returns-else-day-last
@@ -30,7 +30,7 @@ returns-else-day-last g c =
     let last = g .T·Dated .lastOf in
     let h : c .in-Some .i < length (c .args .rows .now) = omega (arith, c .in-Some .ensures tt .law .0, length-map (c .args .rows .now) start) in
     let e : None ≡ inEffect (c .args .day) (map (term start last) (c .args .rows .now)) =
-    effect-past start last (c .args .day) (c .args .rows .now) (c .in-Some .i) (c .index-rows-i .result) h (c .index-rows-i .is) (c .in-Some .ensures tt .value) (rw (c .last .ensures) at (c .if-day-last .left)) in
+    effect-past start last (c .args .day) (c .args .rows .now) (c .in-Some .i) (c .index-rows-i .result) h (c .index-rows-i .is) (c .in-Some .ensures tt .value) (omega arith) in
     record { value = e; within = tt; started = by-started start last (c .args .day) (c .args .rows .now) _ e }
 
 pub returns-in-None : need.returns-in-None

@@ -13,7 +13,7 @@ pub loop-i-again : need.loop-i-again
 loop-i-again g c =
     let start = g .T·Dated .startOf in
     let row = c .index-rows-i .result in
-    before-more _ _ (start row) _ _ (mapped-more start (c .args .rows .now) (c .loop-i .i) row (c .loop-i-test .taken) (c .index-rows-i .is)) (rw (c .start .ensures) at (c .if-start-cut .left))
+    before-more _ _ (start row) _ _ (mapped-more start (c .args .rows .now) (c .loop-i .i) row (c .loop-i-test .taken) (c .index-rows-i .is)) (omega arith)
     ∙ c .loop-i .inv
 
 pub returns : need.returns
@@ -28,6 +28,6 @@ returns-then-start-cut g c =
     let start = g .T·Dated .startOf in
     let row = c .index-rows-i .result in
     let e : c .loop-i .i ≡ before (c .args .cut) (map start (c .args .rows .now)) =
-    before-here _ _ (start row) _ _ (mapped-more start (c .args .rows .now) (c .loop-i .i) row (c .loop-i-test .taken) (c .index-rows-i .is)) (rw (c .start .ensures) at (c .if-start-cut .taken))
+    before-here _ _ (start row) _ _ (mapped-more start (c .args .rows .now) (c .loop-i .i) row (c .loop-i-test .taken) (c .index-rows-i .is)) (omega arith)
     ∙ c .loop-i .inv in
     record { value = e; within = before-within start (c .args .cut) (c .args .rows .now) _ e; law = before-law start (c .args .cut) (c .args .rows .now) _ e }

@@ -19,13 +19,13 @@ returns-then-start-day g c =
     let start = g .T·Dated .startOf in
     let starts = map start (c .args .rows .now) in
     let here : Some (c .loop-i .i - 1) ≡ latestOn (c .args .day) starts =
-    latest-here start (c .args .day) (c .args .rows .now) (c .loop-i .i) (c .index-rows-i .result) (c .loop-i-test .taken) (c .loop-i .kept .i) (c .index-rows-i .is) (rw (c .start .ensures) at (c .if-start-day .taken))
+    latest-here start (c .args .day) (c .args .rows .now) (c .loop-i .i) (c .index-rows-i .result) (c .loop-i-test .taken) (c .loop-i .kept .i) (c .index-rows-i .is) (omega arith)
     ∙ c .loop-i .inv in
     record { value = here; law = subst (Latest (c .args .day) starts) (sym here) (latest-law (c .args .day) starts) }
 
 pub loop-i-again : need.loop-i-again
 loop-i-again g c =
-    latest-passed (g .T·Dated .startOf) (c .args .day) (c .args .rows .now) (c .loop-i .i) (c .index-rows-i .result) (c .loop-i-test .taken) (c .loop-i .kept .i) (c .index-rows-i .is) (rw (c .start .ensures) at (c .if-start-day .left))
+    latest-passed (g .T·Dated .startOf) (c .args .day) (c .args .rows .now) (c .loop-i .i) (c .index-rows-i .result) (c .loop-i-test .taken) (c .loop-i .kept .i) (c .index-rows-i .is) (omega arith)
     ∙ c .loop-i .inv
 
 pub returns : need.returns
