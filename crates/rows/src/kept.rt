@@ -165,7 +165,8 @@ pub impl StateValue for Group as GroupValue {
     }
 }
 
-// A plain constant, since one of a generic block has no value that a type could be given.
+// How many rows of each kind of state are kept for a metering system at most. A plain constant,
+// since one of a generic block cannot be the argument of a type.
 pub const STATE_MAXIMUM: usize = 8;
 
 pub impl<V: StateValue> Kept for State<V> as StateKept {
