@@ -1,12 +1,12 @@
 -- Rows in ascending order of their starts stay so.
-use mathlib.Core.Path.{_≡_, sym, ap, subst, _∙_}
+use mathlib.Core.Path.{_≡_, sym, ap, subst}
 use mathlib.Core.Logic.{⊎-elim}
 use mathlib.Core.List.{List, [], _∷_, _++_, map}
-use Prim.Native.Nat.{ℕ, _+_, _-_, _<_, _≤_}
+use Prim.Native.Nat.{ℕ, _+_, _-_, _<_}
 use native.Mathlib.Omega.{arith}
 use lib.ListN.{length, getD, take}
 use Rattle.std.proofs.shelf.Lists.{length-take, length-push, length-map, getD-take, getD-append-left, getD-push, map-push, take-map}
-use Rattle.std.proofs.shelf.Tests.{cases-lt, cases-eq}
+use Rattle.std.proofs.shelf.Tests.{cases-lt}
 use Rattle.rows.specs.Finding.{Ascending, StartsAfter}
 
 take-ascends : (n : ℕ) (ss : List ℕ) → Ascending ss → Ascending (take n ss)

@@ -10,11 +10,10 @@ use lib.ListN.{length, getD, take}
 use Rattle.std.specs.Finite.{nth}
 use Rattle.std.specs.declared.option.Option.{Option}
 use Rattle.std.specs.declared.option.Option.the-variants.{Some, None}
-use Rattle.std.specs.shelf.Lists.{kept-by}
 use Rattle.std.proofs.shelf.Lists.{length-map, getD-map, length-take-le}
 use Rattle.std.proofs.shelf.Maps.{nth-getD}
 use Rattle.std.proofs.shelf.Tests.{cond-true, cond-false, le-leb, lt-leb, leb-true, leb-false}
-use Rattle.rows.specs.Finding.{further, latestOn, Latest, Term, term, unlessPast, inEffect, rowAt, rowOn, started, ByStarted}
+use Rattle.rows.specs.Finding.{further, latestOn, Latest, term, unlessPast, inEffect, rowAt, rowOn, started, ByStarted}
 use Rattle.rows.proofs.Walks.{mapped-here, mapped-push}
 
 further-cond : (here there : Bool) (x y : Option ℕ) → further here (cond there x y) ≡ cond there (further here x) (further here y)

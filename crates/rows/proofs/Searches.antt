@@ -10,7 +10,7 @@ use Rattle.std.specs.Orderings.{Decides}
 use Rattle.std.proofs.shelf.Lists.{length-map, length-drop, getD-drop}
 use Rattle.std.proofs.shelf.Tests.{false≢true}
 use Rattle.rows.specs.Finding.{Term}
-use Rattle.rows.specs.Spans.{On, Meet, Somewhere, Overlap}
+use Rattle.rows.specs.Spans.{Meet, Somewhere, Overlap}
 use Rattle.rows.proofs.Walks.{mapped-here, mapped-rest}
 
 -- spans that both start by the earlier of their last days meet on the later of their starts

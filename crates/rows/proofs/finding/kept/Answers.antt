@@ -1,10 +1,8 @@
-use mathlib.Core.Path.{_≡_, sym, ap, subst, _∙_}
+use mathlib.Core.Path.{_≡_, ap, _∙_}
 use mathlib.Core.List.{map}
-use Prim.Native.Nat.{ℕ, _+_, _≤_}
 use native.Mathlib.Omega.{arith}
-use lib.ListN.{length, drop}
-use Rattle.std.proofs.shelf.Lists.{length-map}
-use Rattle.rows.specs.Finding.{before, StartedBefore}
+use lib.ListN.{length}
+use Rattle.rows.specs.Finding.{before}
 use Rattle.rows.proofs.Walks.{mapped-more, mapped-all}
 use Rattle.rows.proofs.Cuts.{before-more, before-here, before-within, before-law}
 use Rattle.rows.proofs.finding.kept.Needs as need
