@@ -1,45 +1,41 @@
--- The test for ascent decides it, and how it is walked.
-use mathlib.Core.Path.{_≡_, refl, sym, ap, _∙_}
-use mathlib.Core.Bool.{Bool, true, false, _&&_}
-use mathlib.Core.List.{List, [], _∷_}
-use Prim.Native.Nat.{ℕ, zero, suc, _+_, _-_, _<_, _≤_}
-use native.Mathlib.Nat.{not-suc-le-zero, le-of-suc-le-suc}
+-- Rows in ascending order of their starts stay so.
+use mathlib.Core.Path.{_≡_, sym, ap, subst}
+use mathlib.Core.Logic.{⊎-elim}
+use mathlib.Core.List.{List, [], _∷_, _++_, map}
+use Prim.Native.Nat.{ℕ, _+_, _-_, _<_}
 use native.Mathlib.Omega.{arith}
-use lib.Dec.{ltb}
-use lib.ListN.{length, getD, drop}
-use Rattle.std.specs.Orderings.{Decides}
-use Rattle.std.proofs.shelf.Lists.{drop-more, drop-all}
-use Rattle.std.proofs.shelf.Tests.{ltb-true, lt-ltb, and-parts, and-from}
-use Rattle.rows.specs.Ascent.{ascendingFrom, ascending, Ascends}
+use lib.ListN.{length, getD, take}
+use Rattle.std.proofs.shelf.Lists.{length-take, length-push, length-map, getD-take, getD-append-left, getD-push, map-push, take-map}
+use Rattle.std.proofs.shelf.Tests.{cases-lt}
+use Rattle.rows.specs.Ascent.{Ascending}
+use Rattle.rows.specs.Finding.{StartsAfter}
 
-above : (n : ℕ) (ms : List ℕ) → ascendingFrom n ms ≡ true → (j : ℕ) → j < length ms → n < getD ms j 0
-above n [] e j h = absurd (not-suc-le-zero h)
-above n (m ∷ ms) e zero h = ltb-true n m (and-parts (ltb n m) _ e .0)
-above n (m ∷ ms) e (suc j) h =
-    let p = and-parts (ltb n m) _ e in
-    let a = ltb-true n m (p .0) in
-    let b = above m ms (p .1) j (le-of-suc-le-suc h) in
-    omega arith
+take-ascends : (n : ℕ) (ss : List ℕ) → Ascending ss → Ascending (take n ss)
+take-ascends n ss up i j l h =
+    let long = length-take n ss in
+    omega (arith, up i j l (omega arith), getD-take n ss i 0 (omega arith), getD-take n ss j 0 (omega arith))
 
-sound : (n : ℕ) (ms : List ℕ) → ascendingFrom n ms ≡ true → Ascends (n ∷ ms)
-sound n ms e i zero l h = absurd (not-suc-le-zero l)
-sound n ms e zero (suc j) l h = above n ms e j (le-of-suc-le-suc h)
-sound n [] e (suc i) (suc j) l h = absurd (not-suc-le-zero (le-of-suc-le-suc h))
-sound n (m ∷ ms) e (suc i) (suc j) l h = sound m ms (and-parts (ltb n m) _ e .1) i j (le-of-suc-le-suc l) (le-of-suc-le-suc h)
+-- every start is before one that is after the last
+below : (ss : List ℕ) (s : ℕ) → Ascending ss → (0 < length ss → getD ss (length ss - 1) 0 < s) → (i : ℕ) → i < length ss → getD ss i 0 < s
+below ss s up after i h =
+    ⊎-elim
+    (λ l. omega (arith, after (omega arith), up i (length ss - 1) l (omega arith)))
+    (λ l. let e : i ≡ length ss - 1 = omega arith in omega (arith, after (omega arith), ap (λ k. getD ss k 0) e))
+    (cases-lt i (length ss - 1))
 
-complete : (n : ℕ) (ms : List ℕ) → Ascends (n ∷ ms) → ascendingFrom n ms ≡ true
-complete n [] a = refl
-complete n (m ∷ ms) a =
-    and-from (ltb n m) _ (lt-ltb n m (a 0 1 (omega arith) (omega arith)))
-    (complete m ms (λ i j l h. a (suc i) (suc j) (omega arith) (omega arith)))
+push-ascends : (ss : List ℕ) (s : ℕ) → Ascending ss → (0 < length ss → getD ss (length ss - 1) 0 < s) → Ascending (ss ++ s ∷ [])
+push-ascends ss s up after i j l h =
+    let long = length-push ss s in
+    ⊎-elim
+    (λ k. omega (arith, up i j l k, getD-append-left ss (s ∷ []) 0 i (omega arith), getD-append-left ss (s ∷ []) 0 j k))
+    (λ k. omega (arith, below ss s up after i (omega arith), getD-append-left ss (s ∷ []) 0 i (omega arith), getD-push ss s 0 j (omega arith)))
+    (cases-lt j (length ss))
 
-pub ascending-decides : (ns : List ℕ) → Decides (ascending ns) (Ascends ns)
-ascending-decides [] = (λ _ i j l h. absurd (not-suc-le-zero h), λ _. refl)
-ascending-decides (n ∷ ns) = (sound n ns, complete n ns)
+module _ {X : Type 0} (start : X → ℕ) (rows : List X) (up : Ascending (map start rows)) where
+  pub rows-taken : (n : ℕ) → Ascending (map start (take n rows))
+  rows-taken n = subst Ascending (take-map start n rows) (take-ascends n (map start rows) up)
 
--- what the next number makes of the test
-pub walk-step : (ns : List ℕ) (i : ℕ) → i < length ns → ascendingFrom (getD ns (i - 1) 0) (drop i ns) ≡ (ltb (getD ns (i - 1) 0) (getD ns i 0) && ascendingFrom (getD ns i 0) (drop (i + 1) ns))
-walk-step ns i h = ap (ascendingFrom (getD ns (i - 1) 0)) (drop-more ns i 0 h)
-
-pub walk-all : (ns : List ℕ) (i : ℕ) → length ns ≤ i → ascendingFrom (getD ns (i - 1) 0) (drop i ns) ≡ true
-walk-all ns i h = ap (ascendingFrom (getD ns (i - 1) 0)) (drop-all i ns h)
+  pub row-added : (row : X) → StartsAfter start row (length rows) rows → Ascending (map start (rows ++ row ∷ []))
+  row-added row after =
+      subst Ascending (sym (map-push start rows row))
+      (push-ascends (map start rows) (start row) up (subst (λ n. 0 < n → getD (map start rows) (n - 1) 0 < start row) (sym (length-map rows start)) after))

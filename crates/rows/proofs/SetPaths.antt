@@ -8,7 +8,6 @@ use native.Mathlib.Bridge.{le-prop}
 use native.Mathlib.Nat.{ℕ-set}
 use base.Stored.{Coded, coded-set, codedℕ, codedℤ, codedList}
 use lib.IntN.{ℤ, pos}
-use lib.ListN.{length, drop, replicate}
 use lib.Dec.{ltb}
 use Rattle.rows.specs.Padding.{Padded}
 use Rattle.std.proofs.shelf.Tests.{false≢true, lt-ltb, le-ltb}

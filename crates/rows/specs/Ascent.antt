@@ -15,5 +15,5 @@ ascending [] = true
 ascending (n ∷ ns) = ascendingFrom n ns
 
 -- of any two numbers of the list, the earlier is the smaller
-abbrev pub Ascends : List ℕ → Type 0
-Ascends ns = (i j : ℕ) → i < j → j < length ns → getD ns i 0 < getD ns j 0
+abbrev pub Ascending : List ℕ → Type 0
+Ascending ns = (i j : ℕ) → i < j → j < length ns → getD ns i 0 < getD ns j 0

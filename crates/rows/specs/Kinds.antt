@@ -38,3 +38,20 @@ letterOf Estimate = letter "Q"
 
 abbrev pub kindOf : ℕ → Option Kind
 kindOf code = meant code (codes "RAKPMELGVQ") kinds
+
+-- how many rows of each kind of state are kept for a metering system at most
+abbrev pub stateMaximum : ℕ
+stateMaximum = 8
+
+-- how many rows of a kind are kept for a metering system at most
+abbrev pub maximumOf : Kind → ℕ
+maximumOf Registration = stateMaximum
+maximumOf Appointment = 8
+maximumOf Collector = stateMaximum
+maximumOf Profile = stateMaximum
+maximumOf Measurement = stateMaximum
+maximumOf Energisation = stateMaximum
+maximumOf LineLoss = stateMaximum
+maximumOf Group = stateMaximum
+maximumOf Advance = 16
+maximumOf Estimate = 16

@@ -7,7 +7,7 @@ use lib.ListN.{length, getD, drop}
 use Rattle.std.proofs.shelf.Tests.{lt-ltb, le-ltb}
 use Rattle.std.proofs.shelf.Ways.{decides-at}
 use Rattle.rows.specs.Ascent.{ascendingFrom, ascending}
-use Rattle.rows.proofs.Ascents.{ascending-decides, walk-step, walk-all}
+use Rattle.rows.proofs.AscentTests.{ascending-decides, walk-step, walk-all}
 use Rattle.rows.proofs.ascent.ascends.Needs as need
 
 pub returns-then-numbers-i : need.returns-then-numbers-i

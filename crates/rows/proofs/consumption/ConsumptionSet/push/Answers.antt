@@ -1,14 +1,12 @@
 use mathlib.Core.Path.{refl, sym, ap, _∙_}
-use mathlib.Core.Bool.{true}
 use Prim.Native.Nat.{_<_}
 use native.Mathlib.Omega.{arith}
-use borrow.Author.Needs.{needs}
 use lib.ListN.{set}
 use mir.Syntax.{w32}
 use Rattle.std.proofs.shelf.Signed.{toZ-ofZ}
-use Rattle.std.proofs.shelf.Tests.{lt-ltb, le-ltb}
+use Rattle.std.proofs.shelf.Tests.{lt-ltb}
 use Rattle.rows.specs.Padding.{padded-more}
-use Rattle.rows.proofs.SetPaths.{set-path, pushed-room, pushed-full}
+use Rattle.rows.proofs.SetPaths.{set-path, pushed-room}
 use Rattle.rows.proofs.consumption.ConsumptionSet.push.Needs as need
 
 pub ghost-self : need.ghost-self
