@@ -1,2 +1,5 @@
 pub mod Inversions
+pub mod NumberBytes
+pub mod ReadingLists
+pub mod SetBytes
 pub mod SetReads
