@@ -31,7 +31,7 @@ pub ranged-ok : {X : Type 0} (o : Option X) (x : X) → ranged o ≡ Ok x → o 
 ranged-ok None x e = let z : _≡_ {A = ℕ} 0 1 = cc in absurd (omega arith)
 ranged-ok (Some y) x e = cc
 
-cond-ok : {X : Type 0} (b : Bool) (r : Result X Cause) (d : Cause) (x : X) → cond b r (Err d) ≡ Ok x → (b ≡ true) × (r ≡ Ok x)
+pub cond-ok : {X : Type 0} (b : Bool) (r : Result X Cause) (d : Cause) (x : X) → cond b r (Err d) ≡ Ok x → (b ≡ true) × (r ≡ Ok x)
 cond-ok true r d x e = (refl, e)
 cond-ok false r d x e = let z : _≡_ {A = ℕ} 0 1 = cc in absurd (omega arith)
 

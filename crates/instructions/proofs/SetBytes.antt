@@ -36,6 +36,16 @@ reading-more [] (w ∷ vs) r v e = absurd (omega arith)
 reading-more (q ∷ rs) [] r v e = absurd (omega arith)
 reading-more (q ∷ rs) (w ∷ vs) r v e = ap (λ ys. wordBytes q ++ longBytes (ofZ w32 w) ++ ys) (reading-more rs vs r v (omega arith))
 
+-- six bytes each
+reading-length : (rs : List ℕ) (vs : List ℤ) → length rs ≡ length vs → length (readingBytes rs vs) ≡ 6 * length rs
+reading-length [] [] e = refl
+reading-length [] (v ∷ vs) e = absurd (omega arith)
+reading-length (r ∷ rs) [] e = absurd (omega arith)
+reading-length (r ∷ rs) (v ∷ vs) e = let on = reading-length rs vs (omega arith) in omega arith
+
+pub set-length : (s : ConsumptionSet) → length (readingBytes (regimesOf s) (valuesOf s)) ≡ 6 * s .count
+set-length s = reading-length (regimesOf s) (valuesOf s) (regimes-length s ∙ sym (values-length s)) ∙ ap (λ n. 6 * n) (regimes-length s)
+
 -- what is read of n readings
 pub record SetRead (n : ℕ) (xs : List ℕ) (i : ℕ) (s : ConsumptionSet) : Type 0 where
   pub count : s .count ≡ n
