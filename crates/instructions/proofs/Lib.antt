@@ -1,3 +1,4 @@
+pub mod CommandBytes
 pub mod Inversions
 pub mod Letters
 pub mod NumberBytes
