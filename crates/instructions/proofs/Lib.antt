@@ -1,4 +1,5 @@
 pub mod CommandBytes
+pub mod CommandLists
 pub mod Inversions
 pub mod Letters
 pub mod NumberBytes
