@@ -166,7 +166,7 @@ commands-through (c ∷ cs) rest h =
 pub data Stop (end : Stage) (rest : List ℕ) : Type 0 where
   over : rest ≡ [] → Stop end rest
   unread : (cause : Cause) → 1 ≤ length rest → commandIn rest ≡ Err cause → Stop end rest
-  misplaced : (c : Command) → commandIn rest ≡ Ok c → after end c ≡ None → Stop end rest
+  misplaced : (c : Command) → commandIn rest ≡ Ok c → CommandRead rest c → after end c ≡ None → Stop end rest
 
 -- any bytes are what is written of a list of commands, and a rest at which the reader stops
 pub record Parsed (stage : Stage) (xs : List ℕ) : Type 0 where
@@ -196,7 +196,7 @@ module _ (xs : List ℕ) (stage : Stage) where
   }
 
   parsed-placed : (c : Command) → commandIn xs ≡ Ok c → CommandRead xs c → ((next : Stage) → Parsed next (drop (widthOf c) xs)) → (o : Option Stage) → after stage c ≡ o → Parsed stage xs
-  parsed-placed c e r on None a = parsed-none (misplaced c e a)
+  parsed-placed c e r on None a = parsed-none (misplaced c e r a)
   parsed-placed c e r on (Some next) a = parsed-more c next r a (on next)
 
   parsed-by : Bytes xs → 1 ≤ length xs → ((n : ℕ) → 1 ≤ n → (next : Stage) → Parsed next (drop n xs)) → (q : Result Command Cause) → commandIn xs ≡ q → Parsed stage xs

@@ -1,8 +1,11 @@
+pub mod Accepting
 pub mod CommandBytes
 pub mod CommandLists
+pub mod FileCommands
 pub mod Inversions
 pub mod Letters
 pub mod NumberBytes
+pub mod Order
 pub mod RangeTests
 pub mod ReadingLists
 pub mod RowBytes
