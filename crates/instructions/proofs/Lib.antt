@@ -1,5 +1,7 @@
 pub mod Accepting
+pub mod Blaming
 pub mod CommandBytes
+pub mod CommandCauses
 pub mod CommandLists
 pub mod FileCommands
 pub mod Inversions
