@@ -1,12 +1,12 @@
 -- The reader accepts exactly the writings of well-formed files.
 use mathlib.Core.Path.{_≡_, refl, sym, ap, subst, _∙_}
-use mathlib.Core.List.{List, [], _∷_, _++_}
-use Prim.Native.Nat.{ℕ, _+_, _≤_}
+use mathlib.Core.List.{List, [], _++_}
+use Prim.Native.Nat.{ℕ, _+_}
 use native.Mathlib.Omega.{arith}
 use lib.ListN.{length}
 use Rattle.std.specs.declared.option.Option.{Option}
 use Rattle.std.specs.declared.option.Option.the-variants.{Some, None}
-use Rattle.std.specs.declared.result.Result.the-variants.{Ok, Err}
+use Rattle.std.specs.declared.result.Result.the-variants.{Ok}
 use Rattle.std.proofs.shelf.Lists.{append-nil}
 use Rattle.instructions.specs.declared.commands.Command.{Command}
 use Rattle.instructions.specs.declared.faults.FileFault.{FileFault}
@@ -15,8 +15,8 @@ use Rattle.instructions.specs.Format.{Bytes, Accepts}
 use Rattle.instructions.specs.Stages.{Stage, opening, between, within, closed}
 use Rattle.instructions.specs.WellFormed.{WellFormed}
 use Rattle.instructions.specs.Written.{allBytes, commandsOf, written}
-use Rattle.instructions.proofs.CommandLists.{run, fault-through, commands-through, fault-cause, fault-misplaced, Stop, over, unread, misplaced, Parsed, parsed}
-use Rattle.instructions.proofs.FileCommands.{file-in-range, file-run, file-back, Saying, saying}
+use Rattle.instructions.proofs.CommandLists.{fault-through, commands-through, fault-cause, fault-misplaced, Stop, over, unread, misplaced, Parsed, parsed}
+use Rattle.instructions.proofs.FileCommands.{file-in-range, file-run, file-back, saying}
 
 pub fault-end : (place : ℕ) (stage : Stage) → faultFrom 0 place stage [] ≡ due stage place
 unfolding faultFrom
@@ -51,9 +51,8 @@ module _ (f : File) (w : WellFormed f) where
       ∙ ap (λ (g : File). Ok g) (file-back f)
 
 -- where bytes have no fault, they are over at the end of the file
-module _ (xs : List ℕ) (p : Parsed opening xs) where
-  pub reached-fault : firstFault xs ≡ faultFrom 0 (0 + length (allBytes (p .commands))) (p .end) (p .rest)
-  reached-fault = ap firstFault (p .bytes) ∙ fault-through (p .commands) (p .rest) 0 opening (p .end) (p .range) (p .reached)
+pub reached-fault : (xs : List ℕ) (p : Parsed opening xs) → firstFault xs ≡ faultFrom 0 (0 + length (allBytes (p .commands))) (p .end) (p .rest)
+reached-fault xs p = ap firstFault (p .bytes) ∙ fault-through (p .commands) (p .rest) 0 opening (p .end) (p .range) (p .reached)
 
 due-none : (stage : Stage) (place : ℕ) → due stage place ≡ None → stage ≡ closed
 due-none opening place e = let z : _≡_ {A = ℕ} 0 1 = cc in absurd (omega arith)
@@ -70,19 +69,18 @@ unless-ok : (o : Option FileFault) (g f : File) → unless o g ≡ Ok f → (o �
 unless-ok None g f e = (refl, (cc))
 unless-ok (Some fault) g f e = let z : _≡_ {A = ℕ} 0 1 = cc in absurd (omega arith)
 
-module _ (xs : List ℕ) (b : Bytes xs) (f : File) where
-  accepted : readFile xs ≡ Ok f → WellFormed f × (xs ≡ written f)
-  accepted e =
-      let u = unless-ok (firstFault xs) (fileOf (commandsIn xs)) f e in
-      let p = parsed xs opening b in
-      let cs = p .commands in
-      let s = stop-faultless (0 + length (allBytes cs)) (p .end) (p .rest) (p .stop) (sym (reached-fault xs p) ∙ u .0) in
-      let g = saying cs (p .range) (p .reached ∙ ap (λ (t : Stage). Some t) (s .1)) in
-      let all : xs ≡ allBytes cs = p .bytes ∙ ap (λ ys. allBytes cs ++ ys) (s .0) ∙ append-nil (allBytes cs) in
-      let whole : commandsIn xs ≡ cs =
-      ap commandsIn (p .bytes ∙ ap (λ ys. allBytes cs ++ ys) (s .0)) ∙ commands-through cs [] (p .range) ∙ ap (λ ds. cs ++ ds) commands-end ∙ append-nil cs in
-      let file : fileOf cs ≡ f = ap fileOf (sym whole) ∙ u .1 in
-      (subst WellFormed file (g .form), all ∙ ap allBytes (sym (g .commands)) ∙ ap written file)
+accepted : (xs : List ℕ) (b : Bytes xs) (f : File) → readFile xs ≡ Ok f → WellFormed f × (xs ≡ written f)
+accepted xs b f e =
+    let u = unless-ok (firstFault xs) (fileOf (commandsIn xs)) f e in
+    let p = parsed xs opening b in
+    let cs = p .commands in
+    let s = stop-faultless (0 + length (allBytes cs)) (p .end) (p .rest) (p .stop) (sym (reached-fault xs p) ∙ u .0) in
+    let g = saying cs (p .range) (p .reached ∙ ap (λ (t : Stage). Some t) (s .1)) in
+    let all : xs ≡ allBytes cs = p .bytes ∙ ap (λ ys. allBytes cs ++ ys) (s .0) ∙ append-nil (allBytes cs) in
+    let whole : commandsIn xs ≡ cs =
+    ap commandsIn (p .bytes ∙ ap (λ ys. allBytes cs ++ ys) (s .0)) ∙ commands-through cs [] (p .range) ∙ ap (λ ds. cs ++ ds) commands-end ∙ append-nil cs in
+    let file : fileOf cs ≡ f = ap fileOf (sym whole) ∙ u .1 in
+    (subst WellFormed file (g .form), all ∙ ap allBytes (sym (g .commands)) ∙ ap written file)
 
 pub accepts : Accepts
 accepts xs b f = (accepted xs b f, λ w e. ap readFile e ∙ file-read f w)

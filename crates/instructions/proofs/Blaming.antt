@@ -1,31 +1,29 @@
 -- What a fault says is so: what stands before its place is the front of a well-formed file, and the command there has that cause.
 use mathlib.Core.Path.{_≡_, refl, sym, ap, subst, _∙_}
 use mathlib.Core.List.{List, [], _∷_, _++_, append-assoc}
-use Prim.Native.Nat.{ℕ, zero, suc, _+_, _≤_}
+use Prim.Native.Nat.{ℕ, zero, suc, _+_}
 use native.Mathlib.Nat.{zero-add}
 use native.Mathlib.Omega.{arith}
-use lib.ListN.{length, take, drop, replicate}
+use lib.ListN.{length, drop, replicate}
 use Rattle.std.specs.declared.option.Option.{Option}
 use Rattle.std.specs.declared.option.Option.the-variants.{Some, None}
-use Rattle.std.specs.declared.result.Result.the-variants.{Ok, Err}
+use Rattle.std.specs.declared.result.Result.the-variants.{Err}
 use Rattle.std.specs.shelf.Lists.{All}
 use Rattle.std.proofs.shelf.Elements.{all-append}
 use Rattle.std.proofs.shelf.Lists.{append-nil, length-append, length-replicate, take-at, drop-at}
 use Rattle.instructions.specs.declared.commands.Command.{Command}
 use Rattle.instructions.specs.declared.commands.Command.the-variants.{Header, InstructionEnd}
-use Rattle.instructions.specs.declared.commands.Heading.{Heading}
 use Rattle.instructions.specs.declared.commands.Source.the-variants.{Agent}
 use Rattle.instructions.specs.declared.faults.Cause.{Cause}
 use Rattle.instructions.specs.declared.faults.Cause.the-variants.{CutShort, OutOfPlace}
 use Rattle.instructions.specs.declared.faults.FileFault.{FileFault}
-use Rattle.instructions.specs.Commands.{commandIn}
-use Rattle.instructions.specs.Files.{File, FileInstruction, change, due, faultFrom, firstFault, fileOf, commandsIn, unless, readFile}
-use Rattle.instructions.specs.Format.{Bytes, Front, Whole, Caused, Faulty, Blames}
+use Rattle.instructions.specs.Files.{File, FileInstruction, change, due, faultFrom, firstFault, fileOf, commandsIn, unless}
+use Rattle.instructions.specs.Format.{Front, Whole, Caused, Faulty, Blames}
 use Rattle.instructions.specs.Stages.{Stage, opening, between, within, closed, after}
 use Rattle.instructions.specs.WellFormed.{InstructionInForm, InRange}
-use Rattle.instructions.specs.Written.{commandBytes, allBytes, bodyCommands, written}
+use Rattle.instructions.specs.Written.{commandBytes, allBytes, bodyCommands}
 use Rattle.instructions.proofs.Accepting.{fault-end, no-fault, file-faultless, reached-fault}
-use Rattle.instructions.proofs.CommandBytes.{command-written, CommandRead}
+use Rattle.instructions.proofs.CommandBytes.{command-written}
 use Rattle.instructions.proofs.CommandCauses.{caused-unread, caused-misplaced}
 use Rattle.instructions.proofs.CommandLists.{run, run-append, bytes-append, fault-through, fault-cause, fault-misplaced, Stop, over, unread, misplaced, parsed}
 use Rattle.instructions.proofs.FileCommands.{body-in-range, body-run, saying}

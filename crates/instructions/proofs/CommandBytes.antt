@@ -2,17 +2,15 @@
 use mathlib.Core.Path.{_≡_, refl, sym, ap, subst, _∙_}
 use mathlib.Core.Bool.{Bool, true, false, cond, _&&_}
 use mathlib.Core.List.{List, [], _∷_, _++_}
-use Prim.Native.Nat.{ℕ, suc, _+_, _*_, _≤_, _<_}
-use native.Mathlib.Nat.{add-zero}
+use Prim.Native.Nat.{ℕ, suc, _+_, _≤_}
 use native.Mathlib.Omega.{arith}
-use lib.Dec.{leb, eqb}
+use lib.Dec.{eqb}
 use lib.ListN.{length, drop}
 use Rattle.std.specs.declared.option.Option.{Option}
 use Rattle.std.specs.declared.option.Option.the-variants.{Some, None}
-use Rattle.std.specs.declared.result.Result.{Result}
-use Rattle.std.specs.declared.result.Result.the-variants.{Ok, Err}
+use Rattle.std.specs.declared.result.Result.the-variants.{Ok}
 use Rattle.std.proofs.shelf.Lists.{length-append}
-use Rattle.std.proofs.shelf.Tests.{leb-true, le-leb, and-parts, and-from, eqb-true}
+use Rattle.std.proofs.shelf.Tests.{le-leb, and-parts, and-from, eqb-true}
 use Rattle.rows.specs.Codes.{letter}
 use Rattle.rows.specs.Days.{isDay}
 use Rattle.rows.specs.Rows.{kindOfRow}
@@ -31,13 +29,13 @@ use Rattle.instructions.specs.Format.{Bytes}
 use Rattle.instructions.specs.Numbers.{byte, word, long, huge}
 use Rattle.instructions.specs.Ranges.{isId, isNumber, isCount, isSystem}
 use Rattle.instructions.specs.Records.{sourceOf, header, heading}
-use Rattle.instructions.specs.WellFormed.{Between, Day, Id, Number, SourceInRange, HeadingInRange, InRange}
+use Rattle.instructions.specs.WellFormed.{Between, Id, Number, SourceInRange, HeadingInRange, InRange}
 use Rattle.instructions.specs.Written.{wordBytes, longBytes, hugeBytes, rowBytes, sourceBytes, commandBytes}
 use Rattle.instructions.proofs.Inversions.{given-some, made-some, ranged-ok, whole-ok, commanded-ok}
 use Rattle.instructions.proofs.Letters.{codeOf, record-back, letter-code}
 use Rattle.instructions.proofs.NumberBytes.{word-of, long-of, huge-of, byte-at, word-at, long-at, huge-at, word-below, long-below}
 use Rattle.instructions.proofs.RangeTests.{between-passes, between-holds, id-holds, number-holds}
-use Rattle.instructions.proofs.RowBytes.{given-is, whole-is, RowRead, row-read, row-written}
+use Rattle.instructions.proofs.RowBytes.{given-is, whole-is, row-read, row-written}
 use Rattle.instructions.proofs.SetBytes.{set-length}
 
 row-length : (r : Row) → length (rowBytes r) ≡ fixedSize (kindOfRow r) + setSize r

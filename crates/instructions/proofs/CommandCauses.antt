@@ -1,7 +1,6 @@
 -- Why a command cannot be read: what the reader answers of it is what is so of the bytes there.
 use mathlib.Core.Path.{_≡_, refl, sym, ap, subst, _∙_}
-use mathlib.Core.Logic.{_⊎_, inl, inr, ⊎-elim}
-use mathlib.Core.Bool.{Bool, true, false, cond}
+use mathlib.Core.Logic.{inl, inr, ⊎-elim}
 use mathlib.Core.List.{List, [], _∷_, _++_}
 use Prim.Native.Nat.{ℕ, _+_, _*_, _≤_, _<_}
 use native.Mathlib.Omega.{arith}
@@ -21,7 +20,7 @@ use Rattle.instructions.specs.declared.commands.Letter.the-variants as announc
 use Rattle.instructions.specs.declared.faults.Cause.{Cause}
 use Rattle.instructions.specs.declared.faults.Cause.the-variants.{UnknownLetter, CutShort, OutOfRange, OutOfPlace}
 use Rattle.instructions.specs.Commands.{letterOf, whole, ranged, sought, listed, commanded, behind, known, commandIn, widthOf}
-use Rattle.instructions.specs.Format.{Front, Regimes, Lacks, Unknown, Short, Outside, Misplaced, Caused}
+use Rattle.instructions.specs.Format.{Front, Regimes, Lacks, Unknown, Short, Outside, Caused}
 use Rattle.instructions.specs.Numbers.{byte}
 use Rattle.instructions.specs.Ranges.{isSetSize}
 use Rattle.instructions.specs.Records.{header, heading, registration, appointment, collector, profile, measurement, energisation, lineLoss, group, advance, estimate}

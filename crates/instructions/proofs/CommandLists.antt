@@ -2,7 +2,7 @@
 use mathlib.Core.Path.{_≡_, refl, sym, ap, _∙_}
 use mathlib.Core.List.{List, [], _∷_, _++_, append-assoc}
 use Prim.Native.Nat.{ℕ, zero, suc, _+_, _-_, _≤_, _<_}
-use native.Mathlib.Nat.{add-zero, add-assoc}
+use native.Mathlib.Nat.{add-zero}
 use native.Mathlib.Omega.{arith}
 use lib.ListN.{length, drop}
 use Rattle.std.specs.declared.option.Option.{Option}
@@ -14,10 +14,10 @@ use Rattle.std.proofs.shelf.Elements.{all-drop}
 use Rattle.std.proofs.shelf.Lists.{drop-at, length-append, length-drop}
 use Rattle.instructions.specs.declared.commands.Command.{Command}
 use Rattle.instructions.specs.declared.faults.Cause.{Cause}
-use Rattle.instructions.specs.declared.faults.Cause.the-variants.{CutShort, OutOfPlace}
+use Rattle.instructions.specs.declared.faults.Cause.the-variants.{OutOfPlace}
 use Rattle.instructions.specs.declared.faults.FileFault.{FileFault}
 use Rattle.instructions.specs.Commands.{commandIn, widthOf}
-use Rattle.instructions.specs.Files.{due, faultFrom, commandsFrom}
+use Rattle.instructions.specs.Files.{faultFrom, commandsFrom}
 use Rattle.instructions.specs.Format.{Bytes}
 use Rattle.instructions.specs.Stages.{Stage, after}
 use Rattle.instructions.specs.WellFormed.{InRange}

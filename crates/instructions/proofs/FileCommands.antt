@@ -2,7 +2,7 @@
 use mathlib.Core.Path.{_≡_, refl, sym, ap, subst, _∙_}
 use mathlib.Core.Bool.{Bool, true, false, cond, _&&_}
 use mathlib.Core.List.{List, [], _∷_, _++_, map}
-use Prim.Native.Nat.{ℕ, zero, suc, _+_, _-_, _≤_, _<_}
+use Prim.Native.Nat.{ℕ, suc, _-_}
 use native.Mathlib.Omega.{arith}
 use lib.Dec.{eqb}
 use lib.ListN.{length}
@@ -14,13 +14,12 @@ use Rattle.rows.specs.declared.kinds.Kind.{Kind}
 use Rattle.rows.specs.declared.row.Row.{Row}
 use Rattle.instructions.specs.declared.commands.Command.{Command}
 use Rattle.instructions.specs.declared.commands.Command.the-variants.{Header, Instruction, Record, InstructionEnd, FileEnd}
-use Rattle.instructions.specs.declared.commands.Header as headers
 use Rattle.instructions.specs.declared.commands.Heading.{Heading}
-use Rattle.instructions.specs.Files.{File, FileInstruction, change, recordsOf, instructionsOf, headerOf, fileOf}
+use Rattle.instructions.specs.Files.{File, FileInstruction, change, recordsOf, instructionsOf, fileOf}
 use Rattle.instructions.specs.Records.{given}
-use Rattle.instructions.specs.Stages.{Stage, opening, between, within, closed, follows, regimesAscend, orderOf, after}
+use Rattle.instructions.specs.Stages.{Stage, opening, between, within, closed, follows, regimesAscend, orderOf}
 use Rattle.instructions.specs.WellFormed.{RowInRange, RowInForm, InstructionInForm, InRange, WellFormed}
-use Rattle.instructions.specs.Written.{instructionCommands, bodyCommands, commandsOf}
+use Rattle.instructions.specs.Written.{bodyCommands, commandsOf}
 use Rattle.instructions.proofs.CommandLists.{run, run-first, run-more}
 use Rattle.instructions.proofs.Inversions.{given-some}
 use Rattle.instructions.proofs.Order.{Follows, follows-from-order, order-from-follows, decides-regimes}

@@ -1,13 +1,12 @@
 -- The tests of operands and the ranges that they stand for.
 use mathlib.Core.Path.{_≡_}
 use mathlib.Core.Bool.{true, _&&_}
-use Prim.Native.Nat.{ℕ, _≤_, _<_}
+use Prim.Native.Nat.{ℕ, _<_}
 use native.Mathlib.Omega.{arith}
 use lib.Dec.{leb}
 use Rattle.std.proofs.shelf.Tests.{leb-true, le-leb, and-parts, and-from}
-use Rattle.rows.specs.Days.{isDay}
-use Rattle.instructions.specs.Ranges.{isId, isNumber, isEnd, isLineLossClass}
-use Rattle.instructions.specs.WellFormed.{Between, Day, End, Id, Number}
+use Rattle.instructions.specs.Ranges.{isId, isNumber}
+use Rattle.instructions.specs.WellFormed.{Between, Id, Number}
 
 module _ (low high n : ℕ) where
   pub between-passes : Between low high n → (leb low n && leb n high) ≡ true

@@ -1,10 +1,10 @@
 -- Consumption sets as lists of readings: their lengths, one reading more, and that a set is what its readings are.
-use mathlib.Core.Path.{_≡_, refl, sym, ap, _∙_}
+use mathlib.Core.Path.{_≡_, sym, ap, _∙_}
 use mathlib.Core.List.{List, [], _∷_, _++_}
-use Prim.Native.Nat.{ℕ, _+_, _-_, _≤_, _<_}
+use Prim.Native.Nat.{ℕ, _+_, _-_, _<_}
 use native.Mathlib.Omega.{arith}
 use lib.IntN.{ℤ, pos}
-use lib.ListN.{length, take, drop, replicate}
+use lib.ListN.{length, take, replicate}
 use Rattle.std.proofs.shelf.Lists.{take-append-drop, take-more-set, length-take-le}
 use Rattle.rows.specs.Padding.{Padded}
 use Rattle.rows.specs.Sets.{regimesOf, valuesOf, pushed}
@@ -28,12 +28,11 @@ padded-same blank m n xs ys p q e t =
     ∙ ap (λ zs. take n ys ++ zs) (sym (q .1))
     ∙ take-append-drop n ys
 
-module _ (s t : ConsumptionSet) where
-  pub same-readings : s .count ≡ t .count → regimesOf s ≡ regimesOf t → valuesOf s ≡ valuesOf t → s ≡ t
-  same-readings c r v =
-      set-path s t c
-      (padded-same 0 (s .count) (t .count) (s .regimes) (t .regimes) (s .«regimes_padded») (t .«regimes_padded») c r)
-      (padded-same (pos 0) (s .count) (t .count) (s .values) (t .values) (s .«values_padded») (t .«values_padded») c v)
+pub same-readings : (s t : ConsumptionSet) → s .count ≡ t .count → regimesOf s ≡ regimesOf t → valuesOf s ≡ valuesOf t → s ≡ t
+same-readings s t c r v =
+    set-path s t c
+    (padded-same 0 (s .count) (t .count) (s .regimes) (t .regimes) (s .«regimes_padded») (t .«regimes_padded») c r)
+    (padded-same (pos 0) (s .count) (t .count) (s .values) (t .values) (s .«values_padded») (t .«values_padded») c v)
 
 -- one reading more, where there is room
 module _ (s : ConsumptionSet) (regime : ℕ) (value : ℤ) (room : s .count < 4) where

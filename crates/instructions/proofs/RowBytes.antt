@@ -1,8 +1,8 @@
 -- Records and their bytes: a row in range is read back from what is written of it, and a row that is read is in range and written as it stood.
 use mathlib.Core.Path.{_≡_, refl, sym, ap, subst, _∙_}
 use mathlib.Core.Bool.{Bool, true, _&&_}
-use mathlib.Core.List.{List, [], _∷_, _++_}
-use Prim.Native.Nat.{ℕ, _+_, _*_, _≤_, _<_}
+use mathlib.Core.List.{List, _∷_, _++_}
+use Prim.Native.Nat.{ℕ, _+_, _*_, _≤_}
 use native.Mathlib.Omega.{arith}
 use lib.Dec.{leb}
 use lib.ListN.{length, drop}
@@ -30,13 +30,13 @@ use Rattle.instructions.specs.Format.{Bytes}
 use Rattle.instructions.specs.Numbers.{byte, word}
 use Rattle.instructions.specs.Ranges.{isId, isEnd, isProfileClass, isLineLossClass, isSetSize}
 use Rattle.instructions.specs.Records.{given, made, sets, advance, estimate}
-use Rattle.instructions.specs.WellFormed.{Between, Day, End, Id, RowInRange, SetInRange}
-use Rattle.instructions.specs.Written.{wordBytes, readingBytes, setBytes, rowBytes}
+use Rattle.instructions.specs.WellFormed.{Between, Day, End, RowInRange, SetInRange}
+use Rattle.instructions.specs.Written.{wordBytes, readingBytes, rowBytes}
 use Rattle.instructions.proofs.Inversions.{given-some, made-some, ranged-ok, whole-ok, cond-ok}
 use Rattle.instructions.proofs.Letters.{class-back, status-back, group-back, class-letter, status-letter, group-letter}
 use Rattle.instructions.proofs.NumberBytes.{word-of, word-at, byte-at, word-below}
 use Rattle.instructions.proofs.RangeTests.{between-passes, between-holds, id-holds}
-use Rattle.instructions.proofs.SetBytes.{SetRead, set-read, set-written, set-length}
+use Rattle.instructions.proofs.SetBytes.{set-read, set-written, set-length}
 
 pub given-is : {X : Type 0} (b : Bool) (x : X) → b ≡ true → given b x ≡ Some x
 given-is b x t = cond-true b (Some x) None t
