@@ -1,8 +1,7 @@
 -- What a fault says is so: what stands before its place is the front of a well-formed file, and the command there has that cause.
 use mathlib.Core.Path.{_≡_, refl, sym, ap, subst, _∙_}
 use mathlib.Core.List.{List, [], _∷_, _++_, append-assoc}
-use Prim.Native.Nat.{ℕ, zero, suc, _+_}
-use native.Mathlib.Nat.{zero-add}
+use Prim.Native.Nat.{ℕ, zero, suc}
 use native.Mathlib.Omega.{arith}
 use lib.ListN.{length, drop, replicate}
 use Rattle.std.specs.declared.option.Option.{Option}
@@ -22,11 +21,12 @@ use Rattle.instructions.specs.Format.{Front, Whole, Caused, Faulty, Blames}
 use Rattle.instructions.specs.Stages.{Stage, opening, between, within, closed, after}
 use Rattle.instructions.specs.WellFormed.{InstructionInForm, InRange}
 use Rattle.instructions.specs.Written.{commandBytes, allBytes, bodyCommands}
-use Rattle.instructions.proofs.Accepting.{fault-end, no-fault, file-faultless, reached-fault}
+use Rattle.instructions.proofs.Accepting.{fault-end, first-through, file-faultless, reached-fault}
 use Rattle.instructions.proofs.CommandBytes.{command-written}
 use Rattle.instructions.proofs.CommandCauses.{caused-unread, caused-misplaced}
-use Rattle.instructions.proofs.CommandLists.{run, run-append, bytes-append, fault-through, fault-cause, fault-misplaced, Stop, over, unread, misplaced, parsed}
+use Rattle.instructions.proofs.CommandLists.{run, run-append, bytes-append, fault-cause, fault-misplaced, Stop, over, unread, misplaced, parsed}
 use Rattle.instructions.proofs.FileCommands.{body-in-range, body-run, saying}
+use Rattle.instructions.proofs.Steps.{never}
 
 -- from any stage some commands lead to the end of the file
 record Completed (stage : Stage) : Type 0 where
@@ -68,7 +68,7 @@ due-short : (stage : Stage) (place : ℕ) (fault : FileFault) → due stage plac
 due-short opening place fault e = e
 due-short (between left) place fault e = e
 due-short (within left before) place fault e = e
-due-short closed place fault e = absurd (no-fault fault e)
+due-short closed place fault e = absurd (never fault e)
 
 -- commands that the reader comes through
 module _ (cs : List Command) (range : All InRange cs) (end : Stage) (reached : run opening cs ≡ Some end) where
@@ -78,23 +78,20 @@ module _ (cs : List Command) (range : All InRange cs) (end : Stage) (reached : r
       let s = saying (cs ++ c .commands) (all-append InRange cs (c .commands) range (c .range)) (run-append cs (c .commands) opening end closed reached (c .reached)) in
       (fileOf (cs ++ c .commands), allBytes (c .commands), s .form, sym (bytes-append cs (c .commands)) ∙ ap allBytes (sym (s .commands)))
 
-  fault-behind : (rest : List ℕ) → firstFault (allBytes cs ++ rest) ≡ faultFrom 0 (0 + length (allBytes cs)) end rest
-  fault-behind rest = fault-through cs rest 0 opening end range reached
-
   -- they are no whole file where a command is due behind them
-  not-whole : (fault : FileFault) → due end (0 + length (allBytes cs)) ≡ Some fault → Whole (allBytes cs) → ⊥
+  not-whole : (fault : FileFault) → due end (length (allBytes cs)) ≡ Some fault → Whole (allBytes cs) → ⊥
   not-whole fault e (f, w, p) =
-      no-fault fault
-      (sym (file-faultless f w) ∙ ap firstFault (sym p ∙ sym (append-nil (allBytes cs))) ∙ fault-behind [] ∙ fault-end (0 + length (allBytes cs)) end ∙ e)
+      never fault
+      (sym (file-faultless f w) ∙ ap firstFault (sym p ∙ sym (append-nil (allBytes cs))) ∙ first-through cs [] end range reached ∙ fault-end (length (allBytes cs)) end ∙ e)
 
   -- nor the front of one with a command that is out of place
   not-front : (c : Command) → InRange c → after end c ≡ None → Front (allBytes cs ++ commandBytes c) → ⊥
   not-front c r a (f, rest, w, p) =
-      no-fault (record { cause = OutOfPlace; place = 0 + length (allBytes cs) })
+      never (record { cause = OutOfPlace; place = length (allBytes cs) })
       (sym (file-faultless f w)
       ∙ ap firstFault (sym p ∙ append-assoc (allBytes cs) (commandBytes c) rest)
-      ∙ fault-behind (commandBytes c ++ rest)
-      ∙ fault-misplaced (0 + length (allBytes cs)) end (commandBytes c ++ rest) c (command-written c rest r) a)
+      ∙ first-through cs (commandBytes c ++ rest) end range reached
+      ∙ fault-misplaced (length (allBytes cs)) end (commandBytes c ++ rest) c (command-written c rest r) a)
 
   -- a fault behind them says what is so
   faulty-behind : (rest : List ℕ) (cause : Cause) → Caused cause (allBytes cs) rest → Faulty (allBytes cs ++ rest) (record { cause = cause; place = length (allBytes cs) })
@@ -108,21 +105,20 @@ module _ (cs : List Command) (range : All InRange cs) (end : Stage) (reached : r
         cause = subst (λ ys. Caused cause ys (drop n (allBytes cs ++ rest))) (sym front) (subst (Caused cause (allBytes cs)) (sym back) h);
       }
 
-  faulty-at : (rest : List ℕ) (cause : Cause) (fault : FileFault) → Some (record { cause = cause; place = 0 + length (allBytes cs) }) ≡ Some fault → Caused cause (allBytes cs) rest → Faulty (allBytes cs ++ rest) fault
+  faulty-at : (rest : List ℕ) (cause : Cause) (fault : FileFault) → Some (record { cause = cause; place = length (allBytes cs) }) ≡ Some fault → Caused cause (allBytes cs) rest → Faulty (allBytes cs ++ rest) fault
   faulty-at rest cause fault e h =
-      let same : record { cause = cause; place = 0 + length (allBytes cs) } ≡ fault = cc in
-      let told : record { cause = cause; place = length (allBytes cs) } ≡ fault = ap (λ n. record { cause = cause; place = n }) (sym (zero-add (length (allBytes cs)))) ∙ same in
-      subst (Faulty (allBytes cs ++ rest)) told (faulty-behind rest cause h)
+      let same : record { cause = cause; place = length (allBytes cs) } ≡ fault = cc in
+      subst (Faulty (allBytes cs ++ rest)) same (faulty-behind rest cause h)
 
-  faulty-stop : (rest : List ℕ) (fault : FileFault) → Stop end rest → faultFrom 0 (0 + length (allBytes cs)) end rest ≡ Some fault → Faulty (allBytes cs ++ rest) fault
+  faulty-stop : (rest : List ℕ) (fault : FileFault) → Stop end rest → faultFrom 0 (length (allBytes cs)) end rest ≡ Some fault → Faulty (allBytes cs ++ rest) fault
   faulty-stop rest fault (over none) e =
-      let due-is = sym (fault-end (0 + length (allBytes cs)) end) ∙ ap (faultFrom 0 (0 + length (allBytes cs)) end) (sym none) ∙ e in
+      let due-is = sym (fault-end (length (allBytes cs)) end) ∙ ap (faultFrom 0 (length (allBytes cs)) end) (sym none) ∙ e in
       subst (λ ys. Faulty (allBytes cs ++ ys) fault) (sym none)
-      (faulty-at [] CutShort fault (due-short end (0 + length (allBytes cs)) fault due-is) (λ z. z, not-whole fault due-is))
+      (faulty-at [] CutShort fault (due-short end (length (allBytes cs)) fault due-is) (λ z. z, not-whole fault due-is))
   faulty-stop rest fault (unread cause some q) e =
-      faulty-at rest cause fault (sym (fault-cause (0 + length (allBytes cs)) end rest cause some q) ∙ e) (caused-unread (allBytes cs) rest cause some q)
+      faulty-at rest cause fault (sym (fault-cause (length (allBytes cs)) end rest cause some q) ∙ e) (caused-unread (allBytes cs) rest cause some q)
   faulty-stop rest fault (misplaced c q r a) e =
-      faulty-at rest OutOfPlace fault (sym (fault-misplaced (0 + length (allBytes cs)) end rest c q a) ∙ e) (caused-misplaced (allBytes cs) rest c q r (not-front c (r .range) a))
+      faulty-at rest OutOfPlace fault (sym (fault-misplaced (length (allBytes cs)) end rest c q a) ∙ e) (caused-misplaced (allBytes cs) rest c q r (not-front c (r .range) a))
 
 unless-err : (o : Option FileFault) (f : File) (fault : FileFault) → unless o f ≡ Err fault → o ≡ Some fault
 unless-err None f fault e = let z : _≡_ {A = ℕ} 0 1 = cc in absurd (omega arith)

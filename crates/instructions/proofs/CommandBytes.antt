@@ -35,8 +35,9 @@ use Rattle.instructions.proofs.Inversions.{given-some, made-some, ranged-ok, w
 use Rattle.instructions.proofs.Letters.{codeOf, record-back, letter-code}
 use Rattle.instructions.proofs.NumberBytes.{word-of, long-of, huge-of, byte-at, word-at, long-at, huge-at, word-below, long-below}
 use Rattle.instructions.proofs.RangeTests.{between-passes, between-holds, id-holds, number-holds}
-use Rattle.instructions.proofs.RowBytes.{given-is, whole-is, row-read, row-written}
+use Rattle.instructions.proofs.RowBytes.{row-read, row-written}
 use Rattle.instructions.proofs.SetBytes.{set-length}
+use Rattle.instructions.proofs.Steps.{given-is, whole-is}
 
 row-length : (r : Row) → length (rowBytes r) ≡ fixedSize (kindOfRow r) + setSize r
 row-length (row.Registration r) = refl

@@ -4,13 +4,12 @@ use mathlib.Core.Logic.{inl, inr, ⊎-elim}
 use mathlib.Core.List.{List, [], _∷_, _++_}
 use Prim.Native.Nat.{ℕ, _+_, _*_, _≤_, _<_}
 use native.Mathlib.Omega.{arith}
-use lib.Dec.{leb}
 use lib.ListN.{length, drop}
 use Rattle.std.specs.declared.option.Option.{Option}
 use Rattle.std.specs.declared.option.Option.the-variants.{Some, None}
 use Rattle.std.specs.declared.result.Result.{Result}
 use Rattle.std.specs.declared.result.Result.the-variants.{Ok, Err}
-use Rattle.std.proofs.shelf.Tests.{cases-lt, cases-bool, both-ways, lt-leb, cond-false, cond-true}
+use Rattle.std.proofs.shelf.Tests.{cases-lt, cases-bool, both-ways, cond-false, cond-true}
 use Rattle.rows.specs.declared.kinds.Kind.the-variants as kind
 use Rattle.rows.specs.declared.row.Row.{Row}
 use Rattle.instructions.specs.declared.commands.Command.{Command}
@@ -28,16 +27,13 @@ use Rattle.instructions.specs.WellFormed.{Between}
 use Rattle.instructions.specs.Written.{commandBytes}
 use Rattle.instructions.proofs.CommandBytes.{command-written, CommandRead}
 use Rattle.instructions.proofs.RangeTests.{between-passes, between-holds}
-use Rattle.instructions.proofs.RowBytes.{whole-is}
+use Rattle.instructions.proofs.Steps.{whole-is, whole-short}
 
 -- operands are missing, or they are there and out of range, or they are read
 data Outcome {X : Type 0} (Missing : Type 0) (r : Result X Cause) : Type 0 where
   short : Missing → r ≡ Err CutShort → Outcome Missing r
   outside : (Missing → ⊥) → r ≡ Err OutOfRange → Outcome Missing r
   read : (Missing → ⊥) → (x : X) → r ≡ Ok x → Outcome Missing r
-
-whole-short : {X : Type 0} (n : ℕ) (xs : List ℕ) (r : Result X Cause) → length xs < n → whole n xs r ≡ Err CutShort
-whole-short n xs r h = cond-false (leb n (length xs)) r (Err CutShort) (lt-leb n (length xs) h)
 
 ranged-outcome : {X : Type 0} (Missing : Type 0) (o : Option X) → (Missing → ⊥) → Outcome Missing (ranged o)
 ranged-outcome Missing None h = outside h refl

@@ -23,7 +23,7 @@ use Rattle.instructions.specs.Written.{bodyCommands, commandsOf}
 use Rattle.instructions.proofs.CommandLists.{run, run-first, run-more}
 use Rattle.instructions.proofs.Inversions.{given-some}
 use Rattle.instructions.proofs.Order.{Follows, follows-from-order, order-from-follows, decides-regimes}
-use Rattle.instructions.proofs.RowBytes.{given-is}
+use Rattle.instructions.proofs.Steps.{given-is, never}
 
 -- the commands of an instruction behind what opens it
 abbrev rowCommands : List Row → List Command → List Command
@@ -100,9 +100,6 @@ Said opening cs = Unit {0}
 Said (between left) cs = Body left cs
 Said (within left before) cs = Inside left before cs
 Said closed cs = cs ≡ []
-
-never : {X : Type 0} (x : X) → _≡_ {A = Option X} None (Some x) → ⊥
-never x e = let z : _≡_ {A = ℕ} 0 1 = cc in omega arith
 
 -- an instruction, the end of the file, the records of an instruction, and its end
 said-instruction : (left : ℕ) (h : Heading) (cs : List Command) (b : Bool) (next : Stage) → InRange (Instruction h) → eqb left 0 ≡ b → cond b None (Some (within (left - 1) None)) ≡ Some next → Said next cs → Body left (Instruction h ∷ cs)

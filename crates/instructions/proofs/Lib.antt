@@ -13,3 +13,4 @@ pub mod ReadingLists
 pub mod RowBytes
 pub mod SetBytes
 pub mod SetReads
+pub mod Steps

@@ -4,10 +4,9 @@ use mathlib.Core.Bool.{Bool, true, _&&_}
 use mathlib.Core.List.{List, _∷_, _++_}
 use Prim.Native.Nat.{ℕ, _+_, _*_, _≤_}
 use native.Mathlib.Omega.{arith}
-use lib.Dec.{leb}
 use lib.ListN.{length, drop}
 use Rattle.std.specs.declared.option.Option.{Option}
-use Rattle.std.specs.declared.option.Option.the-variants.{Some, None}
+use Rattle.std.specs.declared.option.Option.the-variants.{Some}
 use Rattle.std.specs.declared.result.Result.{Result}
 use Rattle.std.specs.declared.result.Result.the-variants.{Ok, Err}
 use Rattle.std.proofs.shelf.Lists.{length-append}
@@ -24,12 +23,12 @@ use Rattle.rows.specs.declared.kinds.Kind.the-variants as kind
 use Rattle.rows.specs.declared.row.Row.{Row}
 use Rattle.rows.specs.declared.row.Row.the-variants.{Registration, Appointment, Collector, Profile, Measurement, Energisation, LineLoss, Group, Advance, Estimate}
 use Rattle.instructions.specs.declared.faults.Cause.{Cause}
-use Rattle.instructions.specs.declared.faults.Cause.the-variants.{CutShort, OutOfRange}
+use Rattle.instructions.specs.declared.faults.Cause.the-variants.{OutOfRange}
 use Rattle.instructions.specs.Commands.{fixedSize, whole, ranged, sought, listed, recordOf, setSize}
 use Rattle.instructions.specs.Format.{Bytes}
 use Rattle.instructions.specs.Numbers.{byte, word}
 use Rattle.instructions.specs.Ranges.{isId, isEnd, isProfileClass, isLineLossClass, isSetSize}
-use Rattle.instructions.specs.Records.{given, made, sets, advance, estimate}
+use Rattle.instructions.specs.Records.{sets, advance, estimate}
 use Rattle.instructions.specs.WellFormed.{Between, Day, End, RowInRange, SetInRange}
 use Rattle.instructions.specs.Written.{wordBytes, readingBytes, rowBytes}
 use Rattle.instructions.proofs.Inversions.{given-some, made-some, ranged-ok, whole-ok, cond-ok}
@@ -37,15 +36,7 @@ use Rattle.instructions.proofs.Letters.{class-back, status-back, group-back, c
 use Rattle.instructions.proofs.NumberBytes.{word-of, word-at, byte-at, word-below}
 use Rattle.instructions.proofs.RangeTests.{between-passes, between-holds, id-holds}
 use Rattle.instructions.proofs.SetBytes.{set-read, set-written, set-length}
-
-pub given-is : {X : Type 0} (b : Bool) (x : X) → b ≡ true → given b x ≡ Some x
-given-is b x t = cond-true b (Some x) None t
-
-pub made-is : {X Y : Type 0} (b : Bool) (f : X → Y) (o : Option X) (x : X) → o ≡ Some x → b ≡ true → made b f o ≡ Some (f x)
-made-is b f o x e t = ap (made b f) e ∙ given-is b (f x) t
-
-pub whole-is : {X : Type 0} (n : ℕ) (xs : List ℕ) (r : Result X Cause) → n ≤ length xs → whole n xs r ≡ r
-whole-is n xs r h = cond-true (leb n (length xs)) r (Err CutShort) (le-leb n (length xs) h)
+use Rattle.instructions.proofs.Steps.{given-is, made-is, whole-is}
 
 dated : (start : ℕ) (b : Bool) → Day start → b ≡ true → (isDay start && b) ≡ true
 dated start b d t = and-from (isDay start) b (between-passes 1 60000 start d) t
