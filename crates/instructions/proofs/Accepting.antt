@@ -17,8 +17,9 @@ use Rattle.instructions.specs.Format.{Bytes, Accepts}
 use Rattle.instructions.specs.Stages.{Stage, opening, between, within, closed}
 use Rattle.instructions.specs.WellFormed.{InRange, WellFormed}
 use Rattle.instructions.specs.Written.{allBytes, commandsOf, written}
-use Rattle.instructions.proofs.CommandLists.{run, fault-through, commands-through, fault-cause, fault-misplaced, Stop, over, unread, misplaced, Parsed, parsed}
+use Rattle.instructions.proofs.CommandLists.{run, fault-through, commands-through, Stop, over, unread, misplaced, Parsed, parsed}
 use Rattle.instructions.proofs.FileCommands.{file-in-range, file-run, file-back, saying}
+use Rattle.instructions.proofs.Onward.{misplaced-in, cause-there}
 use Rattle.instructions.proofs.Steps.{never}
 
 pub fault-end : (place : ℕ) (stage : Stage) → faultFrom 0 place stage [] ≡ due stage place
@@ -67,8 +68,8 @@ due-none closed place e = refl
 -- where bytes have no fault, they are over at the end of the file
 stop-faultless : (place : ℕ) (end : Stage) (rest : List ℕ) → Stop end rest → faultFrom 0 place end rest ≡ None → (rest ≡ []) × (end ≡ closed)
 stop-faultless place end rest (over none) e = (none, due-none end place (sym (fault-end place end) ∙ ap (faultFrom 0 place end) (sym none) ∙ e))
-stop-faultless place end rest (unread cause some q) e = absurd (never _ (sym e ∙ fault-cause place end rest cause some q))
-stop-faultless place end rest (misplaced c q r a) e = absurd (never _ (sym e ∙ fault-misplaced place end rest c q a))
+stop-faultless place end rest (unread cause some q) e = absurd (never _ (sym e ∙ cause-there place end rest cause some q))
+stop-faultless place end rest (misplaced c q r a) e = absurd (never _ (sym e ∙ misplaced-in place end rest c q a))
 
 unless-ok : (o : Option FileFault) (g f : File) → unless o g ≡ Ok f → (o ≡ None) × (g ≡ f)
 unless-ok None g f e = (refl, (cc))

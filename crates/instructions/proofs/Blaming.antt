@@ -24,8 +24,9 @@ use Rattle.instructions.specs.Written.{commandBytes, allBytes, bodyCommands}
 use Rattle.instructions.proofs.Accepting.{fault-end, first-through, file-faultless, reached-fault}
 use Rattle.instructions.proofs.CommandBytes.{command-written}
 use Rattle.instructions.proofs.CommandCauses.{caused-unread, caused-misplaced}
-use Rattle.instructions.proofs.CommandLists.{run, run-append, bytes-append, fault-cause, fault-misplaced, Stop, over, unread, misplaced, parsed}
+use Rattle.instructions.proofs.CommandLists.{run, run-append, bytes-append, Stop, over, unread, misplaced, parsed}
 use Rattle.instructions.proofs.FileCommands.{body-in-range, body-run, saying}
+use Rattle.instructions.proofs.Onward.{misplaced-in, cause-there}
 use Rattle.instructions.proofs.Steps.{never}
 
 -- from any stage some commands lead to the end of the file
@@ -91,7 +92,7 @@ module _ (cs : List Command) (range : All InRange cs) (end : Stage) (reached : r
       (sym (file-faultless f w)
       ∙ ap firstFault (sym p ∙ append-assoc (allBytes cs) (commandBytes c) rest)
       ∙ first-through cs (commandBytes c ++ rest) end range reached
-      ∙ fault-misplaced (length (allBytes cs)) end (commandBytes c ++ rest) c (command-written c rest r) a)
+      ∙ misplaced-in (length (allBytes cs)) end (commandBytes c ++ rest) c (command-written c rest r) a)
 
   -- a fault behind them says what is so
   faulty-behind : (rest : List ℕ) (cause : Cause) → Caused cause (allBytes cs) rest → Faulty (allBytes cs ++ rest) (record { cause = cause; place = length (allBytes cs) })
@@ -116,9 +117,9 @@ module _ (cs : List Command) (range : All InRange cs) (end : Stage) (reached : r
       subst (λ ys. Faulty (allBytes cs ++ ys) fault) (sym none)
       (faulty-at [] CutShort fault (due-short end (length (allBytes cs)) fault due-is) (λ z. z, not-whole fault due-is))
   faulty-stop rest fault (unread cause some q) e =
-      faulty-at rest cause fault (sym (fault-cause (length (allBytes cs)) end rest cause some q) ∙ e) (caused-unread (allBytes cs) rest cause some q)
+      faulty-at rest cause fault (sym (cause-there (length (allBytes cs)) end rest cause some q) ∙ e) (caused-unread (allBytes cs) rest cause some q)
   faulty-stop rest fault (misplaced c q r a) e =
-      faulty-at rest OutOfPlace fault (sym (fault-misplaced (length (allBytes cs)) end rest c q a) ∙ e) (caused-misplaced (allBytes cs) rest c q r (not-front c (r .range) a))
+      faulty-at rest OutOfPlace fault (sym (misplaced-in (length (allBytes cs)) end rest c q a) ∙ e) (caused-misplaced (allBytes cs) rest c q r (not-front c (r .range) a))
 
 unless-err : (o : Option FileFault) (f : File) (fault : FileFault) → unless o f ≡ Err fault → o ≡ Some fault
 unless-err None f fault e = let z : _≡_ {A = ℕ} 0 1 = cc in absurd (omega arith)

@@ -62,14 +62,6 @@ command-length (Record r) = let n = row-length r in omega arith
 command-length InstructionEnd = refl
 command-length FileEnd = refl
 
--- a command takes at least its letter
-pub width-some : (c : Command) → 1 ≤ widthOf c
-width-some (Header h) = omega arith
-width-some (Instruction h) = omega arith
-width-some (Record r) = omega arith
-width-some InstructionEnd = omega arith
-width-some FileEnd = omega arith
-
 header-written : (s : Source) (number count : ℕ) (rest : List ℕ) → SourceInRange s → Number number → Between 1 256 count → header ((sourceBytes s ++ longBytes number ++ wordBytes count) ++ rest) ≡ Some (record { source = s; number = number; count = count })
 header-written (Agent id) number count rest i n c =
     simp (word-of, long-of) (given-is _ _ (and-from (isId id && isNumber number) (isCount count) (and-from (isId id) (isNumber number) (le-leb 1 id (i .0)) (le-leb 1 number (n .0))) (between-passes 1 256 count c)))

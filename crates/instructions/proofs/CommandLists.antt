@@ -1,7 +1,7 @@
 -- Lists of commands and their bytes: the reader goes through what is written of a list, and any bytes are what is written of a list up to the first fault.
 use mathlib.Core.Path.{_≡_, refl, sym, ap, _∙_}
 use mathlib.Core.List.{List, [], _∷_, _++_, append-assoc}
-use Prim.Native.Nat.{ℕ, zero, suc, _+_, _-_, _≤_, _<_}
+use Prim.Native.Nat.{ℕ, zero, suc, _+_, _≤_, _<_}
 use native.Mathlib.Nat.{add-zero}
 use native.Mathlib.Omega.{arith}
 use lib.ListN.{length, drop}
@@ -14,96 +14,19 @@ use Rattle.std.proofs.shelf.Elements.{all-drop}
 use Rattle.std.proofs.shelf.Lists.{drop-at, length-append, length-drop}
 use Rattle.instructions.specs.declared.commands.Command.{Command}
 use Rattle.instructions.specs.declared.faults.Cause.{Cause}
-use Rattle.instructions.specs.declared.faults.Cause.the-variants.{OutOfPlace}
-use Rattle.instructions.specs.declared.faults.FileFault.{FileFault}
 use Rattle.instructions.specs.Commands.{commandIn, widthOf}
 use Rattle.instructions.specs.Files.{faultFrom, commandsFrom}
 use Rattle.instructions.specs.Format.{Bytes}
 use Rattle.instructions.specs.Stages.{Stage, after}
 use Rattle.instructions.specs.WellFormed.{InRange}
 use Rattle.instructions.specs.Written.{commandBytes, allBytes}
-use Rattle.instructions.proofs.CommandBytes.{command-length, width-some, command-written, CommandRead, command-read}
+use Rattle.instructions.proofs.CommandBytes.{command-length, command-written, CommandRead, command-read}
+use Rattle.instructions.proofs.Onward.{width-some, next-in, commands-next}
 
 -- the stage behind a list of commands
 abbrev pub run : Stage → List Command → Option Stage
 run stage [] = Some stage
 run stage (c ∷ cs) = elim (after stage c) [ None ↦ None | Some next ↦ run next cs ]
-
--- what the reader makes of a command, and of the stage behind it
-abbrev onward : ℕ → ℕ → List ℕ → Option Stage → Option FileFault
-onward place skip xs o =
-    elim o [
-      | None ↦ Some (record { cause = OutOfPlace; place = place })
-      | Some next ↦ faultFrom skip (place + 1) next xs
-    ]
-
-abbrev told : ℕ → Stage → List ℕ → Result Command Cause → Option FileFault
-told place stage xs r =
-    elim r [
-      | Err cause ↦ Some (record { cause = cause; place = place })
-      | Ok c ↦ onward place (widthOf c - 1) xs (after stage c)
-    ]
-
-abbrev gathered : List ℕ → Result Command Cause → List Command
-gathered xs r = elim r [ Err cause ↦ [] | Ok c ↦ c ∷ commandsFrom (widthOf c - 1) xs ]
-
-module _ (x : ℕ) (xs : List ℕ) where
-  fault-told : (place : ℕ) (stage : Stage) → faultFrom 0 place stage (x ∷ xs) ≡ told place stage xs (commandIn (x ∷ xs))
-  unfolding faultFrom
-  fault-told place stage = refl
-
-  commands-gathered : commandsFrom 0 (x ∷ xs) ≡ gathered xs (commandIn (x ∷ xs))
-  unfolding commandsFrom
-  commands-gathered = refl
-
--- operands are passed over
-fault-skip : (k place : ℕ) (stage : Stage) (xs : List ℕ) → k ≤ length xs → faultFrom k place stage xs ≡ faultFrom 0 (place + k) stage (drop k xs)
-unfolding faultFrom
-fault-skip zero place stage xs h = ap (λ n. faultFrom 0 n stage xs) (sym (add-zero place))
-fault-skip (suc k) place stage [] h = absurd (omega arith)
-fault-skip (suc k) place stage (x ∷ xs) h =
-    let p : place + 1 + k ≡ place + suc k = omega arith in
-    fault-skip k (place + 1) stage xs (omega arith) ∙ ap (λ n. faultFrom 0 n stage (drop k xs)) p
-
-commands-skip : (k : ℕ) (xs : List ℕ) → k ≤ length xs → commandsFrom k xs ≡ commandsFrom 0 (drop k xs)
-unfolding commandsFrom
-commands-skip zero xs h = refl
-commands-skip (suc k) [] h = absurd (omega arith)
-commands-skip (suc k) (x ∷ xs) h = commands-skip k xs (omega arith)
-
-drop-tail : (n x : ℕ) (xs : List ℕ) → 1 ≤ n → drop (n - 1) xs ≡ drop n (x ∷ xs)
-drop-tail n x xs h = let p : suc (n - 1) ≡ n = omega arith in ap (λ k. drop k (x ∷ xs)) p
-
--- what the reader makes of the command at the front
-module _ (place : ℕ) (stage : Stage) where
-  pub fault-cause : (xs : List ℕ) (cause : Cause) → 1 ≤ length xs → commandIn xs ≡ Err cause → faultFrom 0 place stage xs ≡ Some (record { cause = cause; place = place })
-  fault-cause [] cause h e = absurd (omega arith)
-  fault-cause (x ∷ xs) cause h e = fault-told x xs place stage ∙ ap (told place stage xs) e
-
-  pub fault-misplaced : (xs : List ℕ) (c : Command) → commandIn xs ≡ Ok c → after stage c ≡ None → faultFrom 0 place stage xs ≡ Some (record { cause = OutOfPlace; place = place })
-  fault-misplaced [] c e a = let z : _≡_ {A = ℕ} 0 1 = cc in absurd (omega arith)
-  fault-misplaced (x ∷ xs) c e a = fault-told x xs place stage ∙ ap (told place stage xs) e ∙ ap (onward place (widthOf c - 1) xs) a
-
-  fault-step : (xs : List ℕ) (c : Command) (next : Stage) → commandIn xs ≡ Ok c → widthOf c ≤ length xs → after stage c ≡ Some next → faultFrom 0 place stage xs ≡ faultFrom 0 (place + widthOf c) next (drop (widthOf c) xs)
-  fault-step [] c next e h a = let z : _≡_ {A = ℕ} 0 1 = cc in absurd (omega arith)
-  fault-step (x ∷ xs) c next e h a =
-      let some = width-some c in
-      let p : place + 1 + (widthOf c - 1) ≡ place + widthOf c = omega arith in
-      fault-told x xs place stage
-      ∙ ap (told place stage xs) e
-      ∙ ap (onward place (widthOf c - 1) xs) a
-      ∙ fault-skip (widthOf c - 1) (place + 1) next xs (omega arith)
-      ∙ ap (λ n. faultFrom 0 n next (drop (widthOf c - 1) xs)) p
-      ∙ ap (faultFrom 0 (place + widthOf c) next) (drop-tail (widthOf c) x xs some)
-
-commands-step : (xs : List ℕ) (c : Command) → commandIn xs ≡ Ok c → widthOf c ≤ length xs → commandsFrom 0 xs ≡ c ∷ commandsFrom 0 (drop (widthOf c) xs)
-commands-step [] c e h = let z : _≡_ {A = ℕ} 0 1 = cc in absurd (omega arith)
-commands-step (x ∷ xs) c e h =
-    let some = width-some c in
-    commands-gathered x xs
-    ∙ ap (gathered xs) e
-    ∙ ap (λ cs. c ∷ cs) (commands-skip (widthOf c - 1) xs (omega arith))
-    ∙ ap (λ ys. c ∷ commandsFrom 0 ys) (drop-tail (widthOf c) x xs some)
 
 -- the first of a list of commands
 run-next : (o : Option Stage) (cs : List Command) (end : Stage) → _≡_ {A = Option Stage} (elim o [ None ↦ None | Some next ↦ run next cs ]) (Some end) → (next : Stage) × (o ≡ Some next) × (run next cs ≡ Some end)
@@ -127,17 +50,14 @@ bytes-append (c ∷ cs) ds = ap (λ ys. commandBytes c ++ ys) (bytes-append cs d
 
 -- the first command of what is written
 module _ (c : Command) (range : InRange c) (ys : List ℕ) where
-  written-long : widthOf c ≤ length (commandBytes c ++ ys)
-  written-long = let n = command-length c in simp length-append (omega arith)
-
   pub written-step : (place : ℕ) (stage next : Stage) → after stage c ≡ Some next → faultFrom 0 place stage (commandBytes c ++ ys) ≡ faultFrom 0 (place + widthOf c) next ys
   written-step place stage next a =
-      fault-step place stage (commandBytes c ++ ys) c next (command-written c ys range) written-long a
+      next-in place stage (commandBytes c ++ ys) c next (command-written c ys range) a
       ∙ ap (faultFrom 0 (place + widthOf c) next) (drop-at (commandBytes c) ys (widthOf c) (command-length c))
 
   written-command : commandsFrom 0 (commandBytes c ++ ys) ≡ c ∷ commandsFrom 0 ys
   written-command =
-      commands-step (commandBytes c ++ ys) c (command-written c ys range) written-long
+      commands-next (commandBytes c ++ ys) c (command-written c ys range)
       ∙ ap (λ zs. c ∷ commandsFrom 0 zs) (drop-at (commandBytes c) ys (widthOf c) (command-length c))
 
 -- the reader comes through what is written of a list to the stage behind it

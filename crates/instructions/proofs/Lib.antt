@@ -7,6 +7,7 @@ pub mod FileCommands
 pub mod Inversions
 pub mod Letters
 pub mod NumberBytes
+pub mod Onward
 pub mod Order
 pub mod RangeTests
 pub mod ReadingLists
@@ -14,3 +15,5 @@ pub mod RowBytes
 pub mod SetBytes
 pub mod SetReads
 pub mod Steps
+pub mod Walked
+pub mod Widths

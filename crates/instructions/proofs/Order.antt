@@ -9,6 +9,7 @@ use Rattle.std.specs.Orderings.{Decides}
 use Rattle.std.specs.declared.option.Option.{Option}
 use Rattle.std.specs.declared.option.Option.the-variants.{Some, None}
 use Rattle.std.proofs.shelf.Ways.{decides-ltb, decides-eqb, decides-and, decides-or, decides-like}
+use Rattle.rows.specs.Ascent.{ascendingFrom, ascending}
 use Rattle.rows.specs.Kinds.{kinds, rankOf}
 use Rattle.rows.specs.Rows.{kindOfRow, startOfRow}
 use Rattle.rows.specs.Sets.{regimesOf}
@@ -16,7 +17,7 @@ use Rattle.rows.specs.declared.kinds.Kind.{Kind}
 use Rattle.rows.specs.declared.kinds.Kind.the-variants as kind
 use Rattle.rows.specs.declared.row.Row.{Row}
 use Rattle.rows.specs.declared.row.Row.the-variants.{Registration, Appointment, Collector, Profile, Measurement, Energisation, LineLoss, Group, Advance, Estimate}
-use Rattle.instructions.specs.Stages.{follows, ascendsAbove, ascends, regimesAscend, orderOf}
+use Rattle.instructions.specs.Stages.{follows, regimesAscend, orderOf}
 use Rattle.instructions.specs.WellFormed.{Ascending, RegimesAscend, Before, InOrder}
 
 -- a kind by its rank
@@ -63,11 +64,11 @@ pub order-from-follows : (rs : List Row) → Follows None rs → InOrder rs
 order-from-follows [] h = tt
 order-from-follows (r ∷ rs) h = order-behind r rs (h .1)
 
-decides-above : (n : ℕ) (ms : List ℕ) → Decides (ascendsAbove n ms) (Ascending (n ∷ ms))
+decides-above : (n : ℕ) (ms : List ℕ) → Decides (ascendingFrom n ms) (Ascending (n ∷ ms))
 decides-above n [] = (λ t. tt, λ t. refl)
-decides-above n (m ∷ ms) = decides-and (ltb n m) (ascendsAbove m ms) (decides-ltb n m) (decides-above m ms)
+decides-above n (m ∷ ms) = decides-and (ltb n m) (ascendingFrom m ms) (decides-ltb n m) (decides-above m ms)
 
-decides-ascending : (ns : List ℕ) → Decides (ascends ns) (Ascending ns)
+decides-ascending : (ns : List ℕ) → Decides (ascending ns) (Ascending ns)
 decides-ascending [] = (λ t. tt, λ t. refl)
 decides-ascending (n ∷ ns) = decides-above n ns
 

@@ -17,3 +17,7 @@ inInstruction fault = record { cause = fault .cause; place = fault .place }
 
 abbrev pub inFile : InstructionFault → FileFault
 inFile fault = record { cause = fault .cause; place = fault .place }
+
+-- a command that may not come where it stands
+abbrev pub outOfPlace : ℕ → FileFault
+outOfPlace place = record { cause = OutOfPlace; place = place }

@@ -1,6 +1,7 @@
 -- A whole file: its first fault, or what it says.
 use mathlib.Core.List.{List, [], _∷_}
 use Prim.Native.Nat.{ℕ, zero, suc, _+_, _-_}
+use lib.ListN.{drop}
 use Rattle.std.specs.declared.option.Option.{Option}
 use Rattle.std.specs.declared.option.Option.the-variants.{Some, None}
 use Rattle.std.specs.declared.result.Result.{Result}
@@ -16,7 +17,7 @@ use Rattle.instructions.specs.declared.faults.Cause.{Cause}
 use Rattle.instructions.specs.declared.faults.Cause.the-variants.{CutShort, OutOfPlace}
 use Rattle.instructions.specs.declared.faults.FileFault.{FileFault}
 use Rattle.instructions.specs.Commands.{commandIn, widthOf}
-use Rattle.instructions.specs.Stages.{Stage, opening, between, within, closed, after}
+use Rattle.instructions.specs.Stages.{Stage, opening, between, within, closed, headerIn, after}
 
 -- an instruction: what it opens with, and its records
 pub data FileInstruction : Type 0 where
@@ -48,6 +49,10 @@ faultFrom zero place stage (x ∷ xs) =
       ]
     ]
 
+-- the first fault of what is left at a place of a file
+abbrev pub onward : List ℕ → ℕ → Stage → Option FileFault
+onward xs place stage = faultFrom 0 place stage (drop place xs)
+
 abbrev pub firstFault : List ℕ → Option FileFault
 firstFault xs = faultFrom 0 0 opening xs
 
@@ -60,32 +65,50 @@ commandsFrom zero (x ∷ xs) = elim (commandIn (x ∷ xs)) [ Err cause ↦ [] | 
 abbrev pub commandsIn : List ℕ → List Command
 commandsIn xs = commandsFrom 0 xs
 
+-- the record that a command is, if it is one
+abbrev pub recordIn : Command → Option Row
+recordIn (Header h) = None
+recordIn (Instruction h) = None
+recordIn (Record r) = Some r
+recordIn InstructionEnd = None
+recordIn FileEnd = None
+
+-- what a command opens an instruction with, if it opens one
+abbrev pub headingIn : Command → Option Heading
+headingIn (Header h) = None
+headingIn (Instruction h) = Some h
+headingIn (Record r) = None
+headingIn InstructionEnd = None
+headingIn FileEnd = None
+
+-- something and what comes behind it; nothing, and nothing comes behind
+abbrev pub taken : {X : Type 0} → Option X → List X → List X
+taken None xs = []
+taken (Some x) xs = x ∷ xs
+
 -- the records at the front of a list of commands
 abbrev pub recordsOf : List Command → List Row
 recordsOf [] = []
-recordsOf (Header h ∷ cs) = []
-recordsOf (Instruction h ∷ cs) = []
-recordsOf (Record r ∷ cs) = r ∷ recordsOf cs
-recordsOf (InstructionEnd ∷ cs) = []
-recordsOf (FileEnd ∷ cs) = []
+recordsOf (c ∷ cs) = taken (recordIn c) (recordsOf cs)
+
+abbrev pub begun : Option Heading → List Row → List FileInstruction → List FileInstruction
+begun None rs is = is
+begun (Some h) rs is = change h rs ∷ is
 
 -- an instruction is what opens it, and the records behind that
 abbrev pub instructionsOf : List Command → List FileInstruction
 instructionsOf [] = []
-instructionsOf (Header h ∷ cs) = instructionsOf cs
-instructionsOf (Instruction h ∷ cs) = change h (recordsOf cs) ∷ instructionsOf cs
-instructionsOf (Record r ∷ cs) = instructionsOf cs
-instructionsOf (InstructionEnd ∷ cs) = instructionsOf cs
-instructionsOf (FileEnd ∷ cs) = instructionsOf cs
+instructionsOf (c ∷ cs) = begun (headingIn c) (recordsOf cs) (instructionsOf cs)
+
+-- a header, or a blank one
+abbrev pub orBlank : Option headers.Header → headers.Header
+orBlank None = record { source = Agent 0; number = 0; count = 0 }
+orBlank (Some h) = h
 
 -- the header that a file opens with; a blank one where it opens with none
 abbrev pub headerOf : List Command → headers.Header
-headerOf [] = record { source = Agent 0; number = 0; count = 0 }
-headerOf (Header h ∷ cs) = h
-headerOf (Instruction h ∷ cs) = record { source = Agent 0; number = 0; count = 0 }
-headerOf (Record r ∷ cs) = record { source = Agent 0; number = 0; count = 0 }
-headerOf (InstructionEnd ∷ cs) = record { source = Agent 0; number = 0; count = 0 }
-headerOf (FileEnd ∷ cs) = record { source = Agent 0; number = 0; count = 0 }
+headerOf [] = orBlank None
+headerOf (c ∷ cs) = orBlank (headerIn c)
 
 -- what a list of commands says
 abbrev pub fileOf : List Command → File
@@ -99,14 +122,15 @@ unless (Some fault) file = Err fault
 abbrev pub readFile : List ℕ → Result File FileFault
 readFile xs = unless (firstFault xs) (fileOf (commandsIn xs))
 
+-- the source of a header
+abbrev pub sourceOf : Option headers.Header → Option Source
+sourceOf None = None
+sourceOf (Some h) = Some (h .source)
+
 -- the source that the first command names
 abbrev pub named : Result Command Cause → Option Source
 named (Err cause) = None
-named (Ok (Header h)) = Some (h .source)
-named (Ok (Instruction h)) = None
-named (Ok (Record r)) = None
-named (Ok InstructionEnd) = None
-named (Ok FileEnd) = None
+named (Ok c) = sourceOf (headerIn c)
 
 -- which source a file belongs to: that of its header, or none if its first command is no header or has a cause
 abbrev pub sourceOfFile : List ℕ → Option Source

@@ -1,10 +1,10 @@
 -- The form of a file: which command may come when. What may not is out of place.
 use mathlib.Core.Bool.{Bool, true, false, cond, _&&_, _||_}
-use mathlib.Core.List.{List, [], _∷_}
 use Prim.Native.Nat.{ℕ, _-_}
 use lib.Dec.{eqb, ltb}
 use Rattle.std.specs.declared.option.Option.{Option}
 use Rattle.std.specs.declared.option.Option.the-variants.{Some, None}
+use Rattle.rows.specs.Ascent.{ascending}
 use Rattle.rows.specs.Kinds.{rankOf}
 use Rattle.rows.specs.Rows.{kindOfRow, startOfRow}
 use Rattle.rows.specs.Sets.{regimesOf}
@@ -13,6 +13,7 @@ use Rattle.rows.specs.declared.row.Row.{Row}
 use Rattle.rows.specs.declared.row.Row.the-variants.{Registration, Appointment, Collector, Profile, Measurement, Energisation, LineLoss, Group, Advance, Estimate}
 use Rattle.instructions.specs.declared.commands.Command.{Command}
 use Rattle.instructions.specs.declared.commands.Command.the-variants.{Header, Instruction, Record, InstructionEnd, FileEnd}
+use Rattle.instructions.specs.declared.commands.Header as headers
 use Rattle.instructions.specs.Records.{given}
 
 -- how far a file has come
@@ -32,15 +33,6 @@ follows None next = true
 follows (Some before) next =
     ltb (rankOf (before .0)) (rankOf (next .0)) || (eqb (rankOf (before .0)) (rankOf (next .0)) && ltb (before .1) (next .1))
 
--- each number is above the one before it
-abbrev pub ascendsAbove : ℕ → List ℕ → Bool
-ascendsAbove n [] = true
-ascendsAbove n (m ∷ ms) = ltb n m && ascendsAbove m ms
-
-abbrev pub ascends : List ℕ → Bool
-ascends [] = true
-ascends (n ∷ ns) = ascendsAbove n ns
-
 -- the regimes of a set ascend
 abbrev pub regimesAscend : Row → Bool
 regimesAscend (Registration r) = true
@@ -51,20 +43,28 @@ regimesAscend (Measurement r) = true
 regimesAscend (Energisation r) = true
 regimesAscend (LineLoss r) = true
 regimesAscend (Group r) = true
-regimesAscend (Advance r) = ascends (regimesOf (r .set))
-regimesAscend (Estimate r) = ascends (regimesOf (r .set))
+regimesAscend (Advance r) = ascending (regimesOf (r .set))
+regimesAscend (Estimate r) = ascending (regimesOf (r .set))
 
 -- what records are ordered by
 abbrev pub orderOf : Row → Kind × ℕ
 orderOf r = (kindOfRow r, startOfRow r)
 
+-- the header that a command is, if it is one
+abbrev pub headerIn : Command → Option headers.Header
+headerIn (Header h) = Some h
+headerIn (Instruction h) = None
+headerIn (Record r) = None
+headerIn InstructionEnd = None
+headerIn FileEnd = None
+
+abbrev pub opened : Option headers.Header → Option Stage
+opened None = None
+opened (Some h) = Some (between (h .count))
+
 -- first the header
 abbrev pub fromOpening : Command → Option Stage
-fromOpening (Header h) = Some (between (h .count))
-fromOpening (Instruction h) = None
-fromOpening (Record r) = None
-fromOpening InstructionEnd = None
-fromOpening FileEnd = None
+fromOpening c = opened (headerIn c)
 
 -- then as many instructions as the header says, and then the end of the file
 abbrev pub fromBetween : ℕ → Command → Option Stage

@@ -1,6 +1,9 @@
 // The commands of an instruction file.
 ghost use mathlib.Core.Path.{_≡_};
-ghost use Rattle.instructions.specs.Commands.{letterOf};
+ghost use Prim.Native.Nat.{_≤_};
+ghost use Rattle.instructions.specs.Commands.{letterOf, fixedSize, setSize, widthOf};
+ghost use Rattle.instructions.specs.Files.{headingIn, recordIn};
+ghost use Rattle.instructions.specs.Stages.{headerIn};
 use rows::kinds::Kind;
 use rows::row::Row;
 
@@ -44,6 +47,73 @@ pub enum Command {
     InstructionEnd,
     // X
     FileEnd,
+}
+
+impl Command {
+    // How many bytes the command takes, its letter among them.
+    pub fn width(&self) -> usize
+        ensures { λ r. ⌜ r ≡ widthOf (now (self .entry)) ⌝ }
+    {
+        match self {
+            Command::Header(_) => 10,
+            Command::Instruction(_) => 15,
+            Command::Record(row) => 1 + fixed_size(row.kind()) + set_size(row),
+            Command::InstructionEnd => 1,
+            Command::FileEnd => 1,
+        }
+    }
+
+    // The header that the command is, if it is one.
+    pub fn header(&self) -> Option<Header>
+        ensures { λ r. ⌜ r ≡ headerIn (now (self .entry)) ⌝ }
+    {
+        match self {
+            Command::Header(header) => Some(*header),
+            _ => None,
+        }
+    }
+
+    // What the command opens an instruction with, if it opens one.
+    pub fn heading(&self) -> Option<Heading>
+        ensures { λ r. ⌜ r ≡ headingIn (now (self .entry)) ⌝ }
+    {
+        match self {
+            Command::Instruction(heading) => Some(*heading),
+            _ => None,
+        }
+    }
+
+    // The record that the command is, if it is one.
+    pub fn record(&self) -> Option<Row>
+        ensures { λ r. ⌜ r ≡ recordIn (now (self .entry)) ⌝ }
+    {
+        match self {
+            Command::Record(row) => Some(*row),
+            _ => None,
+        }
+    }
+}
+
+// How many bytes the operands of a record take, up to and with the n of a consumption set.
+pub(crate) fn fixed_size(kind: Kind) -> usize
+    ensures { λ r. ⌜ r ≡ fixedSize kind ⌝ }
+{
+    match kind {
+        Kind::Registration | Kind::Appointment | Kind::Collector | Kind::LineLoss => 4,
+        Kind::Profile | Kind::Advance => 5,
+        Kind::Measurement | Kind::Energisation | Kind::Group | Kind::Estimate => 3,
+    }
+}
+
+// How many bytes a row's regimes take.
+fn set_size(row: &Row) -> usize
+    ensures { λ r. ⌜ r ≡ setSize (now (row .entry)) ⌝ ∗ ⌜ r ≤ 24 ⌝ }
+{
+    match row {
+        Row::Advance(row) => 6 * row.set.count(),
+        Row::Estimate(row) => 6 * row.set.count(),
+        _ => 0,
+    }
 }
 
 // What the letter of a command announces.

@@ -68,3 +68,14 @@ pub impl From<InstructionFault> for FileFault as FileFromInstruction {
         }
     }
 }
+
+pub impl From<ReaderFault> for FileFault as FileFromReader {
+    ghost converts = { λ fault r. r ≡ inFile (inInstruction fault) };
+
+    fn from(fault: ReaderFault) -> FileFault {
+        FileFault {
+            cause: fault.cause,
+            place: fault.place,
+        }
+    }
+}

@@ -10,6 +10,7 @@ use crate::commands::Command;
 use crate::commands::Header;
 use crate::commands::Heading;
 use crate::commands::Letter;
+use crate::commands::fixed_size;
 use crate::faults::Cause;
 use crate::records::read_advance;
 use crate::records::read_appointment;
@@ -26,17 +27,6 @@ use crate::records::read_registration;
 use rows::consumption::ConsumptionSet;
 use rows::kinds::Kind;
 use rows::row::Row;
-
-// How many bytes the operands of a record take, up to and with the n of a consumption set.
-pub(crate) fn fixed_size(kind: Kind) -> usize
-    ensures { λ r. ⌜ r ≡ fixedSize kind ⌝ }
-{
-    match kind {
-        Kind::Registration | Kind::Appointment | Kind::Collector | Kind::LineLoss => 4,
-        Kind::Profile | Kind::Advance => 5,
-        Kind::Measurement | Kind::Energisation | Kind::Group | Kind::Estimate => 3,
-    }
-}
 
 // Whether a set's regimes are all there, n of them behind the operands of fixed size: an n out
 // of range is told before any regime is sought.
@@ -124,6 +114,7 @@ fn read_behind(letter: Letter, operands: &[u8]) -> Result<Command, Cause>
 // The command at the front of what is left; its cause where there is none.
 pub(crate) fn read_command(rest: &[u8]) -> Result<Command, Cause>
     ensures value { λ r. ⌜ r ≡ commandIn (now (rest .entry)) ⌝ }
+    ensures within { λ r. ⌜ made r (λ c. widthOf c ≤ length (now (rest .entry))) ⌝ }
 {
     if rest.is_empty() {
         return Err(Cause::CutShort);

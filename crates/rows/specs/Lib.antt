@@ -1,3 +1,4 @@
+pub mod Ascent
 pub mod Codes
 pub mod Days
 pub mod Groups

@@ -1,5 +1,6 @@
 // What is kept of a metering system: dated rows of ten kinds, and the few things
 // that are done with them on every layer above.
+pub mod ascent;
 pub mod consumption;
 pub mod dated;
 pub mod days;
