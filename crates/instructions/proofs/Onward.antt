@@ -54,7 +54,7 @@ unfolding faultFrom
 fault-turn place stage x xs = refl
 
 -- a command in its place leads on
-next-in : (place : ℕ) (stage : Stage) (xs : List ℕ) (c : Command) (next : Stage) → commandIn xs ≡ Ok c → after stage c ≡ Some next → faultFrom 0 place stage xs ≡ faultFrom 0 (place + widthOf c) next (drop (widthOf c) xs)
+pub next-in : (place : ℕ) (stage : Stage) (xs : List ℕ) (c : Command) (next : Stage) → commandIn xs ≡ Ok c → after stage c ≡ Some next → faultFrom 0 place stage xs ≡ faultFrom 0 (place + widthOf c) next (drop (widthOf c) xs)
 next-in place stage [] c next e a = let z : _≡_ {A = ℕ} 0 1 = cc in absurd (omega arith)
 next-in place stage (x ∷ xs) c next e a =
     let some = width-some c in
@@ -67,7 +67,7 @@ next-in place stage (x ∷ xs) c next e a =
     ∙ ap (λ n. faultFrom 0 n next (drop (widthOf c - 1) xs)) (let e : (place + 1) + (widthOf c - 1) ≡ place + widthOf c = omega arith in e)
     ∙ ap (faultFrom 0 (place + widthOf c) next) (drop-drop (widthOf c - 1) 1 (x ∷ xs) ∙ ap (λ n. drop n (x ∷ xs)) one)
 
-misplaced-in : (place : ℕ) (stage : Stage) (xs : List ℕ) (c : Command) → commandIn xs ≡ Ok c → after stage c ≡ None → faultFrom 0 place stage xs ≡ Some (record { cause = OutOfPlace; place = place })
+pub misplaced-in : (place : ℕ) (stage : Stage) (xs : List ℕ) (c : Command) → commandIn xs ≡ Ok c → after stage c ≡ None → faultFrom 0 place stage xs ≡ Some (record { cause = OutOfPlace; place = place })
 misplaced-in place stage [] c e a = let z : _≡_ {A = ℕ} 0 1 = cc in absurd (omega arith)
 misplaced-in place stage (x ∷ xs) c e a = fault-turn place stage x xs ∙ ap (turned place stage xs) e ∙ ap (led place xs (widthOf c)) a
 
@@ -92,7 +92,7 @@ unfolding faultFrom
 cause-in place stage [] cause o e = due-open stage place o ∙ same-cause place e
 cause-in place stage (x ∷ xs) cause o e = fault-turn place stage x xs ∙ ap (turned place stage xs) e
 
-cause-there : (place : ℕ) (stage : Stage) (xs : List ℕ) (cause : Cause) → 0 < length xs → commandIn xs ≡ Err cause → faultFrom 0 place stage xs ≡ Some (record { cause = cause; place = place })
+pub cause-there : (place : ℕ) (stage : Stage) (xs : List ℕ) (cause : Cause) → 0 < length xs → commandIn xs ≡ Err cause → faultFrom 0 place stage xs ≡ Some (record { cause = cause; place = place })
 cause-there place stage [] cause h e = absurd (omega arith)
 cause-there place stage (x ∷ xs) cause h e = fault-turn place stage x xs ∙ ap (turned place stage xs) e
 
