@@ -9,6 +9,7 @@ use crate::words::RowWords;
 use crate::words::RowWordsDisplay;
 use crate::words::SourceWords;
 use crate::words::SourceWordsDisplay;
+use format::read_file;
 use instructions::commands::Command;
 use instructions::faults::FileFault;
 use instructions::file::InstructionFile;
@@ -80,7 +81,7 @@ fn print_fault(rt: &LibcRuntime, name: &str, bytes: &[u8], fault: FileFault) -> 
 
 // Explains the bytes of a file under its name.
 pub fn inspect(rt: &LibcRuntime, name: &str, bytes: &[u8]) -> io::Result<()> {
-    match InstructionFile::read(bytes) {
+    match read_file(bytes) {
         Ok(file) => {
             println!(rt, "{name}:")?;
             print_file(rt, name, &file)

@@ -1,9 +1,9 @@
 // Tests of the layers together: what files are found to be, table by table.
 #[cfg(test)]
 mod tests {
+    use format::read_file;
     use instructions::commands::Source;
     use instructions::commands::SourcePartialEq;
-    use instructions::file::InstructionFile;
     use instructions::source::source_of;
     use instructions::walking::Instruction;
     use instructions::walking::InstructionsIterator;
@@ -20,7 +20,7 @@ mod tests {
     // What a file is found to be: 0 and 0 where it is well formed, else the number of the
     // cause and the place.
     fn found(bytes: &[u8]) -> (u8, usize) {
-        match InstructionFile::read(bytes) {
+        match read_file(bytes) {
             Ok(_) => (0, 0),
             Err(fault) => (fault.cause.number(), fault.place),
         }
@@ -317,7 +317,7 @@ mod tests {
     // What is walked of the whole file: one instruction with its ten records.
     #[test]
     fn walks() -> Result<(), Fail> {
-        let Ok(file) = InstructionFile::read(WHOLE) else {
+        let Ok(file) = read_file(WHOLE) else {
             return Err(Fail::new("the file is well formed"));
         };
         check_eq(file.header().count, 1)?;

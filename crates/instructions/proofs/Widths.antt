@@ -59,7 +59,7 @@ given-size b x r n e h = subst (λ y. size y ≤ n) (given-some b x r (ranged-ok
 made-size : {X : Type 0} (b : Bool) (f : X → Row) (o : Option X) (r : Row) (n : ℕ) → ranged (made b f o) ≡ Ok r → ((x : X) → o ≡ Some x → size (f x) ≤ n) → size r ≤ n
 made-size b f o r n e h = let m = made-some b f o r (ranged-ok _ r e) in subst (λ y. size y ≤ n) (m .3) (h (m .0) (m .1))
 
-listed-ok : (t : Result (Unit {0}) Cause) (o : Option Row) (r : Row) → listed t o ≡ Ok r → (t ≡ Ok tt) × (ranged o ≡ Ok r)
+pub listed-ok : (t : Result (Unit {0}) Cause) (o : Option Row) (r : Row) → listed t o ≡ Ok r → (t ≡ Ok tt) × (ranged o ≡ Ok r)
 listed-ok (Err d) o r e = let z : _≡_ {A = ℕ} 0 1 = cc in absurd (omega arith)
 listed-ok (Ok t) o r e = (refl, e)
 

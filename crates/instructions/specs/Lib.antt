@@ -1,7 +1,6 @@
 pub mod Commands
 pub mod Faults
 pub mod Files
-pub mod Format
 pub mod Meanings
 pub mod Numbers
 pub mod Parts
@@ -11,5 +10,3 @@ pub mod Records
 pub mod Stages
 pub mod Turns
 pub mod Walks
-pub mod WellFormed
-pub mod Written

@@ -118,7 +118,7 @@ fn set_size(row: &Row) -> usize
 
 // What the letter of a command announces.
 #[derive(Clone, Copy)]
-pub(crate) enum Letter {
+pub enum Letter {
     Header,
     Instruction,
     Record(Kind),
@@ -127,7 +127,8 @@ pub(crate) enum Letter {
 }
 
 impl Letter {
-    pub(crate) fn from_char(letter: char) -> Option<Letter>
+    // The letter that a character is, if it is one.
+    pub fn from_char(letter: char) -> Option<Letter>
         ensures { λ r. ⌜ r ≡ letterOf letter ⌝ }
     {
         match letter {

@@ -7,7 +7,6 @@ pub mod commands;
 pub mod faults;
 pub mod file;
 mod instruction;
-pub mod law;
 mod operands;
 mod reader;
 mod reading;

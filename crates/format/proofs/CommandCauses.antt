@@ -12,22 +12,22 @@ use Rattle.std.specs.declared.result.Result.the-variants.{Ok, Err}
 use Rattle.std.proofs.shelf.Tests.{cases-lt, cases-bool, both-ways, cond-false, cond-true}
 use Rattle.rows.specs.declared.kinds.Kind.the-variants as kind
 use Rattle.rows.specs.declared.row.Row.{Row}
 use Rattle.instructions.specs.declared.commands.Command.{Command}
 use Rattle.instructions.specs.declared.commands.Command.the-variants.{InstructionEnd, FileEnd}
 use Rattle.instructions.specs.declared.commands.Letter.{Letter}
 use Rattle.instructions.specs.declared.commands.Letter.the-variants as announced
 use Rattle.instructions.specs.declared.faults.Cause.{Cause}
 use Rattle.instructions.specs.declared.faults.Cause.the-variants.{UnknownLetter, CutShort, OutOfRange, OutOfPlace}
 use Rattle.instructions.specs.Commands.{letterOf, whole, ranged, sought, listed, commanded, behind, known, commandIn, widthOf}
-use Rattle.instructions.specs.Format.{Front, Regimes, Lacks, Unknown, Short, Outside, Caused}
+use Rattle.format.specs.Format.{Front, Regimes, Lacks, Unknown, Short, Outside, Caused}
 use Rattle.instructions.specs.Numbers.{byte}
 use Rattle.instructions.specs.Ranges.{isSetSize}
 use Rattle.instructions.specs.Records.{header, heading, registration, appointment, collector, profile, measurement, energisation, lineLoss, group, advance, estimate}
-use Rattle.instructions.specs.WellFormed.{Between}
-use Rattle.instructions.specs.Written.{commandBytes}
-use Rattle.instructions.proofs.CommandBytes.{command-written, CommandRead}
-use Rattle.instructions.proofs.RangeTests.{between-passes, between-holds}
-use Rattle.instructions.proofs.Steps.{whole-is, whole-short}
+use Rattle.format.specs.WellFormed.{Between}
+use Rattle.format.specs.Written.{commandBytes}
+use Rattle.format.proofs.CommandBytes.{command-written, CommandRead}
+use Rattle.format.proofs.RangeTests.{between-passes, between-holds}
+use Rattle.format.proofs.Steps.{whole-is, whole-short}
 
 -- operands are missing, or they are there and out of range, or they are read
 data Outcome {X : Type 0} (Missing : Type 0) (r : Result X Cause) : Type 0 where

@@ -17,15 +17,15 @@ use Rattle.std.proofs.shelf.Tests.{leb-true, le-leb, and-parts, and-from, cond-
 use Rattle.std.proofs.shelf.Lists.{take-more, take-all}
 use Rattle.rows.specs.Sets.{regimesOf, valuesOf, emptySet, pushed}
 use Rattle.rows.specs.declared.consumption.ConsumptionSet.{ConsumptionSet}
-use Rattle.instructions.specs.Format.{Bytes}
+use Rattle.format.specs.Format.{Bytes}
 use Rattle.instructions.specs.Numbers.{word, signed}
 use Rattle.instructions.specs.Ranges.{isReading, isId, isValue}
 use Rattle.instructions.specs.Records.{made, sets}
-use Rattle.instructions.specs.WellFormed.{Id, Value}
-use Rattle.instructions.specs.Written.{wordBytes, longBytes, readingBytes}
+use Rattle.format.specs.WellFormed.{Id, Value}
+use Rattle.format.specs.Written.{wordBytes, longBytes, readingBytes}
 use Rattle.instructions.proofs.Inversions.{made-some}
-use Rattle.instructions.proofs.NumberBytes.{joint, word-at, signed-at, word-below, word-of, signed-back, word-drop, long-drop}
-use Rattle.instructions.proofs.ReadingLists.{regimes-length, values-length, same-readings, pushed-count, pushed-regimes, pushed-values}
+use Rattle.format.proofs.NumberBytes.{joint, word-at, signed-at, word-below, word-of, signed-back, word-drop, long-drop}
+use Rattle.format.proofs.ReadingLists.{regimes-length, values-length, same-readings, pushed-count, pushed-regimes, pushed-values}
 
 -- one reading more
 reading-more : (rs : List ℕ) (vs : List ℤ) (r : ℕ) (v : ℤ) → length rs ≡ length vs → readingBytes (rs ++ r ∷ []) (vs ++ v ∷ []) ≡ readingBytes rs vs ++ (wordBytes r ++ longBytes (ofZ w32 v))

@@ -6,18 +6,19 @@ use Prim.Native.Nat.{ℕ, _≤_, _<_}
 use lib.IntN.{ℤ, natAbs}
 use lib.ListN.{length}
 use Rattle.std.specs.shelf.Lists.{All}
+use Rattle.rows.specs.Ascent.{Ascending}
 use Rattle.rows.specs.Kinds.{rankOf}
 use Rattle.rows.specs.Rows.{kindOfRow, startOfRow}
 use Rattle.rows.specs.Sets.{regimesOf, valuesOf}
 use Rattle.rows.specs.declared.consumption.ConsumptionSet.{ConsumptionSet}
 use Rattle.rows.specs.declared.row.Row.{Row}
 use Rattle.rows.specs.declared.row.Row.the-variants.{Registration, Appointment, Collector, Profile, Measurement, Energisation, LineLoss, Group, Advance, Estimate}
 use Rattle.instructions.specs.declared.commands.Command.{Command}
 use Rattle.instructions.specs.declared.commands.Command.the-variants as command
 use Rattle.instructions.specs.declared.commands.Heading.{Heading}
 use Rattle.instructions.specs.declared.commands.Source.{Source}
 use Rattle.instructions.specs.declared.commands.Source.the-variants as source
 use Rattle.instructions.specs.Files.{File, FileInstruction, change}
 
 -- from one number to another, both included
 abbrev pub Between : ℕ → ℕ → ℕ → Type 0
@@ -39,12 +40,6 @@ Number n = Between 1 4294967295 n
 
 abbrev pub Value : ℤ → Type 0
 Value v = natAbs v ≤ 2000000000
-
--- each number is above the one before it
-abbrev pub Ascending : List ℕ → Type 0
-Ascending [] = Unit {0}
-Ascending (n ∷ []) = Unit {0}
-Ascending (n ∷ m ∷ ms) = (n < m) × Ascending (m ∷ ms)
 
 -- one to four regimes, each with its value
 pub record SetInRange (s : ConsumptionSet) : Type 0 where

@@ -9,7 +9,6 @@ use Rattle.std.specs.Orderings.{Decides}
 use Rattle.std.specs.declared.option.Option.{Option}
 use Rattle.std.specs.declared.option.Option.the-variants.{Some, None}
 use Rattle.std.proofs.shelf.Ways.{decides-ltb, decides-eqb, decides-and, decides-or, decides-like}
-use Rattle.rows.specs.Ascent.{ascendingFrom, ascending}
 use Rattle.rows.specs.Kinds.{kinds, rankOf}
 use Rattle.rows.specs.Rows.{kindOfRow, startOfRow}
 use Rattle.rows.specs.Sets.{regimesOf}
@@ -17,8 +16,9 @@ use Rattle.rows.specs.declared.kinds.Kind.{Kind}
 use Rattle.rows.specs.declared.kinds.Kind.the-variants as kind
 use Rattle.rows.specs.declared.row.Row.{Row}
 use Rattle.rows.specs.declared.row.Row.the-variants.{Registration, Appointment, Collector, Profile, Measurement, Energisation, LineLoss, Group, Advance, Estimate}
+use Rattle.rows.proofs.AscentTests.{ascending-decides}
 use Rattle.instructions.specs.Stages.{follows, regimesAscend, orderOf}
-use Rattle.instructions.specs.WellFormed.{Ascending, RegimesAscend, Before, InOrder}
+use Rattle.format.specs.WellFormed.{RegimesAscend, Before, InOrder}
 
 -- a kind by its rank
 ranked : (k : Kind) → getD kinds (rankOf k) kind.Registration ≡ k
@@ -64,14 +64,6 @@ pub order-from-follows : (rs : List Row) → Follows None rs → InOrder rs
 order-from-follows [] h = tt
 order-from-follows (r ∷ rs) h = order-behind r rs (h .1)
 
-decides-above : (n : ℕ) (ms : List ℕ) → Decides (ascendingFrom n ms) (Ascending (n ∷ ms))
-decides-above n [] = (λ t. tt, λ t. refl)
-decides-above n (m ∷ ms) = decides-and (ltb n m) (ascendingFrom m ms) (decides-ltb n m) (decides-above m ms)
-
-decides-ascending : (ns : List ℕ) → Decides (ascending ns) (Ascending ns)
-decides-ascending [] = (λ t. tt, λ t. refl)
-decides-ascending (n ∷ ns) = decides-above n ns
-
 pub decides-regimes : (r : Row) → Decides (regimesAscend r) (RegimesAscend r)
 decides-regimes (Registration r) = (λ t. tt, λ t. refl)
 decides-regimes (Appointment r) = (λ t. tt, λ t. refl)
@@ -81,5 +73,5 @@ decides-regimes (Measurement r) = (λ t. tt, λ t. refl)
 decides-regimes (Energisation r) = (λ t. tt, λ t. refl)
 decides-regimes (LineLoss r) = (λ t. tt, λ t. refl)
 decides-regimes (Group r) = (λ t. tt, λ t. refl)
-decides-regimes (Advance r) = decides-ascending (regimesOf (r .set))
-decides-regimes (Estimate r) = decides-ascending (regimesOf (r .set))
+decides-regimes (Advance r) = ascending-decides (regimesOf (r .set))
+decides-regimes (Estimate r) = ascending-decides (regimesOf (r .set))

@@ -12,16 +12,16 @@ use Rattle.std.specs.declared.result.Result.the-variants.{Ok, Err}
 use Rattle.std.specs.shelf.Lists.{All}
 use Rattle.std.proofs.shelf.Elements.{all-drop}
 use Rattle.std.proofs.shelf.Lists.{drop-at, length-append, length-drop}
 use Rattle.instructions.specs.declared.commands.Command.{Command}
 use Rattle.instructions.specs.declared.faults.Cause.{Cause}
 use Rattle.instructions.specs.Commands.{commandIn, widthOf}
 use Rattle.instructions.specs.Files.{faultFrom, commandsFrom}
-use Rattle.instructions.specs.Format.{Bytes}
+use Rattle.format.specs.Format.{Bytes}
 use Rattle.instructions.specs.Stages.{Stage, after}
-use Rattle.instructions.specs.WellFormed.{InRange}
-use Rattle.instructions.specs.Written.{commandBytes, allBytes}
-use Rattle.instructions.proofs.CommandBytes.{command-length, command-written, CommandRead, command-read}
+use Rattle.format.specs.WellFormed.{InRange}
+use Rattle.format.specs.Written.{commandBytes, allBytes}
+use Rattle.format.proofs.CommandBytes.{command-length, command-written, CommandRead, command-read}
 use Rattle.instructions.proofs.Onward.{width-some, next-in, commands-next}
 
 -- the stage behind a list of commands
 abbrev pub run : Stage → List Command → Option Stage

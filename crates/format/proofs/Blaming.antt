@@ -10,24 +10,24 @@ use Rattle.std.specs.declared.result.Result.the-variants.{Err}
 use Rattle.std.specs.shelf.Lists.{All}
 use Rattle.std.proofs.shelf.Elements.{all-append}
 use Rattle.std.proofs.shelf.Lists.{append-nil, length-append, length-replicate, take-at, drop-at}
 use Rattle.instructions.specs.declared.commands.Command.{Command}
 use Rattle.instructions.specs.declared.commands.Command.the-variants.{Header, InstructionEnd}
 use Rattle.instructions.specs.declared.commands.Source.the-variants.{Agent}
 use Rattle.instructions.specs.declared.faults.Cause.{Cause}
 use Rattle.instructions.specs.declared.faults.Cause.the-variants.{CutShort, OutOfPlace}
 use Rattle.instructions.specs.declared.faults.FileFault.{FileFault}
 use Rattle.instructions.specs.Files.{File, FileInstruction, change, due, faultFrom, firstFault, fileOf, commandsIn, unless}
-use Rattle.instructions.specs.Format.{Front, Whole, Caused, Faulty, Blames}
+use Rattle.format.specs.Format.{Front, Whole, Caused, Faulty, Blames}
 use Rattle.instructions.specs.Stages.{Stage, opening, between, within, closed, after}
-use Rattle.instructions.specs.WellFormed.{InstructionInForm, InRange}
-use Rattle.instructions.specs.Written.{commandBytes, allBytes, bodyCommands}
-use Rattle.instructions.proofs.Accepting.{fault-end, first-through, file-faultless, reached-fault}
-use Rattle.instructions.proofs.CommandBytes.{command-written}
-use Rattle.instructions.proofs.CommandCauses.{caused-unread, caused-misplaced}
-use Rattle.instructions.proofs.CommandLists.{run, run-append, bytes-append, Stop, over, unread, misplaced, parsed}
-use Rattle.instructions.proofs.FileCommands.{body-in-range, body-run, saying}
+use Rattle.format.specs.WellFormed.{InstructionInForm, InRange}
+use Rattle.format.specs.Written.{commandBytes, allBytes, bodyCommands}
+use Rattle.format.proofs.Accepting.{fault-end, first-through, file-faultless, reached-fault}
+use Rattle.format.proofs.CommandBytes.{command-written}
+use Rattle.format.proofs.CommandCauses.{caused-unread, caused-misplaced}
+use Rattle.format.proofs.CommandLists.{run, run-append, bytes-append, Stop, over, unread, misplaced, parsed}
+use Rattle.format.proofs.FileCommands.{body-in-range, body-run, saying}
 use Rattle.instructions.proofs.Onward.{misplaced-in, cause-there}
-use Rattle.instructions.proofs.Steps.{never}
+use Rattle.format.proofs.Steps.{never}
 
 -- from any stage some commands lead to the end of the file
 record Completed (stage : Stage) : Type 0 where

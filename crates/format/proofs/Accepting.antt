@@ -10,17 +10,17 @@ use Rattle.std.specs.declared.option.Option.the-variants.{Some, None}
 use Rattle.std.specs.declared.result.Result.the-variants.{Ok}
 use Rattle.std.specs.shelf.Lists.{All}
 use Rattle.std.proofs.shelf.Lists.{append-nil}
 use Rattle.instructions.specs.declared.commands.Command.{Command}
 use Rattle.instructions.specs.declared.faults.FileFault.{FileFault}
 use Rattle.instructions.specs.Files.{File, due, faultFrom, firstFault, commandsFrom, commandsIn, fileOf, unless, readFile}
-use Rattle.instructions.specs.Format.{Bytes, Accepts}
+use Rattle.format.specs.Format.{Bytes, Accepts}
 use Rattle.instructions.specs.Stages.{Stage, opening, between, within, closed}
-use Rattle.instructions.specs.WellFormed.{InRange, WellFormed}
-use Rattle.instructions.specs.Written.{allBytes, commandsOf, written}
-use Rattle.instructions.proofs.CommandLists.{run, fault-through, commands-through, Stop, over, unread, misplaced, Parsed, parsed}
-use Rattle.instructions.proofs.FileCommands.{file-in-range, file-run, file-back, saying}
+use Rattle.format.specs.WellFormed.{InRange, WellFormed}
+use Rattle.format.specs.Written.{allBytes, commandsOf, written}
+use Rattle.format.proofs.CommandLists.{run, fault-through, commands-through, Stop, over, unread, misplaced, Parsed, parsed}
+use Rattle.format.proofs.FileCommands.{file-in-range, file-run, file-back, saying}
 use Rattle.instructions.proofs.Onward.{misplaced-in, cause-there}
-use Rattle.instructions.proofs.Steps.{never}
+use Rattle.format.proofs.Steps.{never}
 
 pub fault-end : (place : ℕ) (stage : Stage) → faultFrom 0 place stage [] ≡ due stage place
 unfolding faultFrom

@@ -22,21 +22,22 @@ use Rattle.rows.specs.declared.kinds.Kind.{Kind}
 use Rattle.rows.specs.declared.kinds.Kind.the-variants as kind
 use Rattle.rows.specs.declared.row.Row.{Row}
 use Rattle.rows.specs.declared.row.Row.the-variants.{Registration, Appointment, Collector, Profile, Measurement, Energisation, LineLoss, Group, Advance, Estimate}
 use Rattle.instructions.specs.declared.faults.Cause.{Cause}
 use Rattle.instructions.specs.declared.faults.Cause.the-variants.{OutOfRange}
 use Rattle.instructions.specs.Commands.{fixedSize, whole, ranged, sought, listed, recordOf, setSize}
-use Rattle.instructions.specs.Format.{Bytes}
+use Rattle.format.specs.Format.{Bytes}
 use Rattle.instructions.specs.Numbers.{byte, word}
 use Rattle.instructions.specs.Ranges.{isId, isEnd, isProfileClass, isLineLossClass, isSetSize}
 use Rattle.instructions.specs.Records.{sets, advance, estimate}
-use Rattle.instructions.specs.WellFormed.{Between, Day, End, RowInRange, SetInRange}
-use Rattle.instructions.specs.Written.{wordBytes, readingBytes, rowBytes}
+use Rattle.format.specs.WellFormed.{Between, Day, End, RowInRange, SetInRange}
+use Rattle.format.specs.Written.{wordBytes, readingBytes, rowBytes}
+use Rattle.instructions.proofs.Widths.{listed-ok}
 use Rattle.instructions.proofs.Inversions.{given-some, made-some, ranged-ok, whole-ok, cond-ok}
-use Rattle.instructions.proofs.Letters.{class-back, status-back, group-back, class-letter, status-letter, group-letter}
-use Rattle.instructions.proofs.NumberBytes.{word-of, word-at, byte-at, word-below}
-use Rattle.instructions.proofs.RangeTests.{between-passes, between-holds, id-holds}
-use Rattle.instructions.proofs.SetBytes.{set-read, set-written, set-length}
-use Rattle.instructions.proofs.Steps.{given-is, made-is, whole-is}
+use Rattle.format.proofs.Letters.{class-back, status-back, group-back, class-letter, status-letter, group-letter}
+use Rattle.format.proofs.NumberBytes.{word-of, word-at, byte-at, word-below}
+use Rattle.format.proofs.RangeTests.{between-passes, between-holds, id-holds}
+use Rattle.format.proofs.SetBytes.{set-read, set-written, set-length}
+use Rattle.format.proofs.Steps.{given-is, made-is, whole-is}
 
 dated : (start : ℕ) (b : Bool) → Day start → b ≡ true → (isDay start && b) ≡ true
 dated start b d t = and-from (isDay start) b (between-passes 1 60000 start d) t
@@ -118,17 +119,13 @@ module _ (xs : List ℕ) (b : Bytes xs) where
 plain : (xs : List ℕ) (size : ℕ) (o : Option Row) (r : Row) → whole size xs (ranged o) ≡ Ok r → (size ≤ length xs) × (o ≡ Some r)
 plain xs size o r e = let w = whole-ok size xs (ranged o) r e in (w .0, ranged-ok o r (w .1))
 
-listed-ok : (q : Result (Unit {0}) Cause) (o : Option Row) (r : Row) → listed q o ≡ Ok r → (q ≡ Ok tt) × (o ≡ Some r)
-listed-ok (Err c) o r e = let z : _≡_ {A = ℕ} 0 1 = cc in absurd (omega arith)
-listed-ok (Ok t) o r e = (refl, ranged-ok o r e)
-
 -- and of one with a set behind the n that stands at a place
 counted : (xs : List ℕ) (at : ℕ) (o : Option Row) (r : Row) → whole (at + 1) xs (listed (sought (byte xs at) (at + 1) xs) o) ≡ Ok r → (o ≡ Some r) × Between 1 4 (byte xs at) × (at + 1 + 6 * byte xs at ≤ length xs)
 counted xs at o r e =
     let w = whole-ok (at + 1) xs (listed (sought (byte xs at) (at + 1) xs) o) r e in
     let l = listed-ok (sought (byte xs at) (at + 1) xs) o r (w .1) in
     let c = cond-ok (isSetSize (byte xs at)) (whole (at + 1 + 6 * byte xs at) xs (Ok tt)) OutOfRange tt (l .0) in
-    (l .1, between-holds 1 4 (byte xs at) (c .0), whole-ok (at + 1 + 6 * byte xs at) xs (Ok tt) tt (c .1) .0)
+    (ranged-ok o r (l .1), between-holds 1 4 (byte xs at) (c .0), whole-ok (at + 1 + 6 * byte xs at) xs (Ok tt) tt (c .1) .0)
 
 record SetThere (xs : List ℕ) (at : ℕ) (s : ConsumptionSet) : Type 0 where
   pub range : SetInRange s

@@ -5,8 +5,8 @@ use Prim.Native.Nat.{ℕ, _<_}
 use native.Mathlib.Omega.{arith}
 use lib.Dec.{leb}
 use Rattle.std.proofs.shelf.Tests.{leb-true, le-leb, and-parts, and-from}
 use Rattle.instructions.specs.Ranges.{isId, isNumber}
-use Rattle.instructions.specs.WellFormed.{Between, Id, Number}
+use Rattle.format.specs.WellFormed.{Between, Id, Number}
 
 module _ (low high n : ℕ) where
   pub between-passes : Between low high n → (leb low n && leb n high) ≡ true

@@ -11,10 +11,10 @@ use mir.Val.{SFits, toZ, ofZ}
 use Rattle.std.proofs.shelf.Elements.{all-getD}
 use Rattle.std.proofs.shelf.Lists.{getD-drop, drop-more}
 use Rattle.std.proofs.shelf.Signed.{toZ-ofZ, ofZ-toZ}
-use Rattle.instructions.specs.Format.{Bytes}
+use Rattle.format.specs.Format.{Bytes}
 use Rattle.instructions.specs.Numbers.{byte, word, long, huge, signed}
-use Rattle.instructions.specs.WellFormed.{Value}
-use Rattle.instructions.specs.Written.{wordBytes, longBytes, hugeBytes}
+use Rattle.format.specs.WellFormed.{Value}
+use Rattle.format.specs.Written.{wordBytes, longBytes, hugeBytes}
 
 -- a number from its bytes
 pub word-of : (n : ℕ) → 256 * (n / 256) + n % 256 ≡ n

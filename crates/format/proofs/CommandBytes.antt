@@ -16,28 +16,28 @@ use Rattle.rows.specs.Days.{isDay}
 use Rattle.rows.specs.Rows.{kindOfRow}
 use Rattle.rows.specs.declared.row.Row.{Row}
 use Rattle.rows.specs.declared.row.Row.the-variants as row
 use Rattle.instructions.specs.declared.commands.Command.{Command}
 use Rattle.instructions.specs.declared.commands.Command.the-variants.{Header, Instruction, Record, InstructionEnd, FileEnd}
 use Rattle.instructions.specs.declared.commands.Header as headers
 use Rattle.instructions.specs.declared.commands.Heading.{Heading}
 use Rattle.instructions.specs.declared.commands.Letter.{Letter}
 use Rattle.instructions.specs.declared.commands.Letter.the-variants as announced
 use Rattle.instructions.specs.declared.commands.Source.{Source}
 use Rattle.instructions.specs.declared.commands.Source.the-variants.{Agent, Collector}
 use Rattle.instructions.specs.Commands.{letterOf, fixedSize, setSize, whole, ranged, recordOf, commanded, behind, known, commandIn, widthOf}
-use Rattle.instructions.specs.Format.{Bytes}
+use Rattle.format.specs.Format.{Bytes}
 use Rattle.instructions.specs.Numbers.{byte, word, long, huge}
 use Rattle.instructions.specs.Ranges.{isId, isNumber, isCount, isSystem}
 use Rattle.instructions.specs.Records.{sourceOf, header, heading}
-use Rattle.instructions.specs.WellFormed.{Between, Id, Number, SourceInRange, HeadingInRange, InRange}
-use Rattle.instructions.specs.Written.{wordBytes, longBytes, hugeBytes, rowBytes, sourceBytes, commandBytes}
+use Rattle.format.specs.WellFormed.{Between, Id, Number, SourceInRange, HeadingInRange, InRange}
+use Rattle.format.specs.Written.{wordBytes, longBytes, hugeBytes, rowBytes, sourceBytes, commandBytes}
 use Rattle.instructions.proofs.Inversions.{given-some, made-some, ranged-ok, whole-ok, commanded-ok}
-use Rattle.instructions.proofs.Letters.{codeOf, record-back, letter-code}
-use Rattle.instructions.proofs.NumberBytes.{word-of, long-of, huge-of, byte-at, word-at, long-at, huge-at, word-below, long-below}
-use Rattle.instructions.proofs.RangeTests.{between-passes, between-holds, id-holds, number-holds}
-use Rattle.instructions.proofs.RowBytes.{row-read, row-written}
-use Rattle.instructions.proofs.SetBytes.{set-length}
-use Rattle.instructions.proofs.Steps.{given-is, whole-is}
+use Rattle.format.proofs.Letters.{codeOf, record-back, letter-code}
+use Rattle.format.proofs.NumberBytes.{word-of, long-of, huge-of, byte-at, word-at, long-at, huge-at, word-below, long-below}
+use Rattle.format.proofs.RangeTests.{between-passes, between-holds, id-holds, number-holds}
+use Rattle.format.proofs.RowBytes.{row-read, row-written}
+use Rattle.format.proofs.SetBytes.{set-length}
+use Rattle.format.proofs.Steps.{given-is, whole-is}
 
 row-length : (r : Row) → length (rowBytes r) ≡ fixedSize (kindOfRow r) + setSize r
 row-length (row.Registration r) = refl

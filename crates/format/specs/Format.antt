@@ -5,21 +5,22 @@ use mathlib.Core.Path.{_≡_}
 use Prim.Native.Nat.{ℕ, _+_, _*_, _≤_, _<_}
 use lib.ListN.{length, take, drop}
 use Rattle.std.specs.declared.option.Option.the-variants.{Some, None}
+use Rattle.std.specs.declared.result.Result.{Result}
 use Rattle.std.specs.declared.result.Result.the-variants.{Ok, Err}
 use Rattle.std.specs.shelf.Lists.{All}
 use Rattle.rows.specs.declared.kinds.Kind.{Kind}
 use Rattle.rows.specs.declared.kinds.Kind.the-variants.{Registration, Appointment, Collector, Profile, Measurement, Energisation, LineLoss, Group, Advance, Estimate}
 use Rattle.instructions.specs.declared.commands.Command.{Command}
 use Rattle.instructions.specs.declared.commands.Letter.{Letter}
 use Rattle.instructions.specs.declared.commands.Letter.the-variants as announced
 use Rattle.instructions.specs.declared.faults.Cause.{Cause}
 use Rattle.instructions.specs.declared.faults.Cause.the-variants.{UnknownLetter, CutShort, OutOfRange, OutOfPlace}
 use Rattle.instructions.specs.declared.faults.FileFault.{FileFault}
 use Rattle.instructions.specs.Commands.{letterOf, fixedSize}
 use Rattle.instructions.specs.Files.{File, readFile}
 use Rattle.instructions.specs.Numbers.{byte}
-use Rattle.instructions.specs.WellFormed.{WellFormed, InRange, Between}
-use Rattle.instructions.specs.Written.{written, commandBytes}
+use Rattle.format.specs.WellFormed.{WellFormed, InRange, Between}
+use Rattle.format.specs.Written.{written, commandBytes}
 
 abbrev pub Bytes : List ℕ → Type 0
 Bytes xs = All (λ b. b < 256) xs
@@ -92,3 +93,12 @@ pub record Faulty (xs : List ℕ) (fault : FileFault) : Type 0 where
 
 abbrev pub Blames : Type 0
 Blames = (xs : List ℕ) → Bytes xs → (fault : FileFault) → readFile xs ≡ Err fault → Faulty xs fault
+
+-- what is answered of a file: it is well formed and this is its writing, or it has this fault
+abbrev pub Lawful : List ℕ → Result File FileFault → Type 0
+Lawful xs (Ok file) = WellFormed file × (xs ≡ written file)
+Lawful xs (Err fault) = Faulty xs fault
+
+-- and a well-formed file whose writing this is, is what is answered
+abbrev pub Found : List ℕ → Result File FileFault → Type 0
+Found xs r = (file : File) → WellFormed file → xs ≡ written file → r ≡ Ok file

@@ -1,0 +1,15 @@
+pub mod Accepting
+pub mod Answered
+pub mod Blaming
+pub mod CommandBytes
+pub mod CommandCauses
+pub mod CommandLists
+pub mod FileCommands
+pub mod Letters
+pub mod NumberBytes
+pub mod Order
+pub mod RangeTests
+pub mod ReadingLists
+pub mod RowBytes
+pub mod SetBytes
+pub mod Steps
