@@ -1,13 +1,10 @@
 pub mod Ascent
 pub mod Codes
 pub mod Days
-pub mod Finding
 pub mod Groups
 pub mod Kinds
 pub mod MeasurementClasses
 pub mod Padding
 pub mod Rows
 pub mod Sets
-pub mod Spans
 pub mod Statuses
-pub mod Windows

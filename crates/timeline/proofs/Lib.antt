@@ -1,0 +1,4 @@
+pub mod Cuts
+pub mod Latest
+pub mod Searches
+pub mod Walks
