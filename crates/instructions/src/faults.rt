@@ -50,10 +50,10 @@ pub struct FileFault {
 pub impl From<ReaderFault> for InstructionFault as InstructionFromReader {
     ghost converts = { λ fault r. r ≡ inInstruction fault };
 
-    fn from(fault: ReaderFault) -> InstructionFault {
+    fn from(reader: ReaderFault) -> InstructionFault {
         InstructionFault {
-            cause: fault.cause,
-            place: fault.place,
+            cause: reader.cause,
+            place: reader.place,
         }
     }
 }
@@ -61,10 +61,10 @@ pub impl From<ReaderFault> for InstructionFault as InstructionFromReader {
 pub impl From<InstructionFault> for FileFault as FileFromInstruction {
     ghost converts = { λ fault r. r ≡ inFile fault };
 
-    fn from(fault: InstructionFault) -> FileFault {
+    fn from(instruction: InstructionFault) -> FileFault {
         FileFault {
-            cause: fault.cause,
-            place: fault.place,
+            cause: instruction.cause,
+            place: instruction.place,
         }
     }
 }
@@ -72,10 +72,10 @@ pub impl From<InstructionFault> for FileFault as FileFromInstruction {
 pub impl From<ReaderFault> for FileFault as FileFromReader {
     ghost converts = { λ fault r. r ≡ inFile (inInstruction fault) };
 
-    fn from(fault: ReaderFault) -> FileFault {
+    fn from(command: ReaderFault) -> FileFault {
         FileFault {
-            cause: fault.cause,
-            place: fault.place,
+            cause: command.cause,
+            place: command.place,
         }
     }
 }

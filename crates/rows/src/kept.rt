@@ -1,6 +1,6 @@
 // How many rows of each kind are kept for a metering system, and what fills the places that no row has yet.
 ghost use mathlib.Core.Path.{_≡_};
-ghost use Rattle.rows.specs.Kinds.{stateMaximum, maximumOf};
+ghost use Rattle.rows.specs.Kinds.{maximumOf};
 ghost use Rattle.rows.specs.Sets.{emptySet};
 ghost use Rattle.rows.specs.declared.kinds.Kind.{Kind};
 ghost use Rattle.rows.specs.declared.kinds.Kind.the-variants as kinds;
@@ -28,6 +28,9 @@ use crate::states::Supplier;
 
 // A kind of row as a type.
 pub trait Kept: Dated + Copy {
+    // How many rows of the kind are kept for a metering system at most.
+    const MAXIMUM: usize;
+
     ghost kind: { Kind };
 
     // fills the places behind the rows that are kept
@@ -39,25 +42,31 @@ pub trait Kept: Dated + Copy {
     fn kind() -> Kind
         ensures { λ r. ⌜ r ≡ kind ⌝ };
 
-    // How many rows of the kind are kept for a metering system at most.
-    fn maximum() -> usize
+    // The maximum: the value of a constant is not known in generic code, but what this answers is.
+    fn limit() -> usize
         ensures { λ r. ⌜ r ≡ maximumOf kind ⌝ };
 
     fn blank() -> Self
         ensures { λ r. ⌜ r ≡ blank ⌝ };
 }
 
+// How many rows of each kind of state are kept for a metering system at most.
+const STATE_MAXIMUM: usize = 8;
+
 // What a state row can say.
 pub trait StateValue: Copy {
-    ghost kind: { Kind };
+    // How many rows of the kind are kept for a metering system at most.
+    const MAXIMUM: usize;
 
-    // as many rows are kept of each kind of state
-    law few: { maximumOf kind ≡ stateMaximum };
+    ghost kind: { Kind };
 
     ghost blank: { Self };
 
     fn kind() -> Kind
         ensures { λ r. ⌜ r ≡ kind ⌝ };
+
+    fn limit() -> usize
+        ensures { λ r. ⌜ r ≡ maximumOf kind ⌝ };
 
     // Stands in rows that are blank; it says nothing.
     fn blank() -> Self
@@ -65,6 +74,8 @@ pub trait StateValue: Copy {
 }
 
 pub impl StateValue for Supplier as SupplierValue {
+    const MAXIMUM: usize = STATE_MAXIMUM;
+
     ghost kind = { kinds.Registration };
 
     ghost blank = { record { id = 0 } };
@@ -73,12 +84,18 @@ pub impl StateValue for Supplier as SupplierValue {
         Kind::Registration
     }
 
+    fn limit() -> usize {
+        Self::MAXIMUM
+    }
+
     fn blank() -> Supplier {
         Supplier { id: 0 }
     }
 }
 
 pub impl StateValue for Collector as CollectorValue {
+    const MAXIMUM: usize = STATE_MAXIMUM;
+
     ghost kind = { kinds.Collector };
 
     ghost blank = { record { id = 0 } };
@@ -87,18 +104,28 @@ pub impl StateValue for Collector as CollectorValue {
         Kind::Collector
     }
 
+    fn limit() -> usize {
+        Self::MAXIMUM
+    }
+
     fn blank() -> Collector {
         Collector { id: 0 }
     }
 }
 
 pub impl StateValue for Profile as ProfileValue {
+    const MAXIMUM: usize = STATE_MAXIMUM;
+
     ghost kind = { kinds.Profile };
 
     ghost blank = { record { class = 0; configuration = 0 } };
 
     fn kind() -> Kind {
         Kind::Profile
+    }
+
+    fn limit() -> usize {
+        Self::MAXIMUM
     }
 
     fn blank() -> Profile {
@@ -110,6 +137,8 @@ pub impl StateValue for Profile as ProfileValue {
 }
 
 pub impl StateValue for MeasurementClass as MeasurementClassValue {
+    const MAXIMUM: usize = STATE_MAXIMUM;
+
     ghost kind = { kinds.Measurement };
 
     ghost blank = { classes.A };
@@ -118,12 +147,18 @@ pub impl StateValue for MeasurementClass as MeasurementClassValue {
         Kind::Measurement
     }
 
+    fn limit() -> usize {
+        Self::MAXIMUM
+    }
+
     fn blank() -> MeasurementClass {
         MeasurementClass::A
     }
 }
 
 pub impl StateValue for Status as StatusValue {
+    const MAXIMUM: usize = STATE_MAXIMUM;
+
     ghost kind = { kinds.Energisation };
 
     ghost blank = { statuses.DeEnergised };
@@ -132,12 +167,18 @@ pub impl StateValue for Status as StatusValue {
         Kind::Energisation
     }
 
+    fn limit() -> usize {
+        Self::MAXIMUM
+    }
+
     fn blank() -> Status {
         Status::DeEnergised
     }
 }
 
 pub impl StateValue for LineLossClass as LineLossClassValue {
+    const MAXIMUM: usize = STATE_MAXIMUM;
+
     ghost kind = { kinds.LineLoss };
 
     ghost blank = { record { number = 0 } };
@@ -146,12 +187,18 @@ pub impl StateValue for LineLossClass as LineLossClassValue {
         Kind::LineLoss
     }
 
+    fn limit() -> usize {
+        Self::MAXIMUM
+    }
+
     fn blank() -> LineLossClass {
         LineLossClass { number: 0 }
     }
 }
 
 pub impl StateValue for Group as GroupValue {
+    const MAXIMUM: usize = STATE_MAXIMUM;
+
     ghost kind = { kinds.Group };
 
     ghost blank = { groups.A };
@@ -160,16 +207,18 @@ pub impl StateValue for Group as GroupValue {
         Kind::Group
     }
 
+    fn limit() -> usize {
+        Self::MAXIMUM
+    }
+
     fn blank() -> Group {
         Group::A
     }
 }
 
-// How many rows of each kind of state are kept for a metering system at most. A plain constant,
-// since one of a generic block cannot be the argument of a type.
-pub const STATE_MAXIMUM: usize = 8;
-
 pub impl<V: StateValue> Kept for State<V> as StateKept {
+    const MAXIMUM: usize = V::MAXIMUM;
+
     ghost kind = { V·StateValue .kind };
 
     ghost blank = { record { start = 0; value = V·StateValue .blank } };
@@ -178,8 +227,8 @@ pub impl<V: StateValue> Kept for State<V> as StateKept {
         V::kind()
     }
 
-    fn maximum() -> usize {
-        STATE_MAXIMUM
+    fn limit() -> usize {
+        V::limit()
     }
 
     fn blank() -> State<V> {
@@ -190,11 +239,9 @@ pub impl<V: StateValue> Kept for State<V> as StateKept {
     }
 }
 
-impl Appointment {
-    pub const MAXIMUM: usize = 8;
-}
-
 pub impl Kept for Appointment as AppointmentKept {
+    const MAXIMUM: usize = 8;
+
     ghost kind = { kinds.Appointment };
 
     ghost blank = { record { start = 0; end = 0 } };
@@ -203,7 +250,7 @@ pub impl Kept for Appointment as AppointmentKept {
         Kind::Appointment
     }
 
-    fn maximum() -> usize {
+    fn limit() -> usize {
         Self::MAXIMUM
     }
 
@@ -212,11 +259,9 @@ pub impl Kept for Appointment as AppointmentKept {
     }
 }
 
-impl Advance {
-    pub const MAXIMUM: usize = 16;
-}
-
 pub impl Kept for Advance as AdvanceKept {
+    const MAXIMUM: usize = 16;
+
     ghost kind = { kinds.Advance };
 
     ghost blank = { record { start = 0; end = 0; set = emptySet } };
@@ -225,7 +270,7 @@ pub impl Kept for Advance as AdvanceKept {
         Kind::Advance
     }
 
-    fn maximum() -> usize {
+    fn limit() -> usize {
         Self::MAXIMUM
     }
 
@@ -238,11 +283,9 @@ pub impl Kept for Advance as AdvanceKept {
     }
 }
 
-impl Estimate {
-    pub const MAXIMUM: usize = 16;
-}
-
 pub impl Kept for Estimate as EstimateKept {
+    const MAXIMUM: usize = 16;
+
     ghost kind = { kinds.Estimate };
 
     ghost blank = { record { start = 0; set = emptySet } };
@@ -251,7 +294,7 @@ pub impl Kept for Estimate as EstimateKept {
         Kind::Estimate
     }
 
-    fn maximum() -> usize {
+    fn limit() -> usize {
         Self::MAXIMUM
     }
 
@@ -269,16 +312,16 @@ impl Kind {
         ensures { λ r. ⌜ r ≡ maximumOf self ⌝ }
     {
         match self {
-            Kind::Registration => State::<Supplier>::maximum(),
-            Kind::Appointment => Appointment::maximum(),
-            Kind::Collector => State::<Collector>::maximum(),
-            Kind::Profile => State::<Profile>::maximum(),
-            Kind::Measurement => State::<MeasurementClass>::maximum(),
-            Kind::Energisation => State::<Status>::maximum(),
-            Kind::LineLoss => State::<LineLossClass>::maximum(),
-            Kind::Group => State::<Group>::maximum(),
-            Kind::Advance => Advance::maximum(),
-            Kind::Estimate => Estimate::maximum(),
+            Kind::Registration => State::<Supplier>::limit(),
+            Kind::Appointment => Appointment::limit(),
+            Kind::Collector => State::<Collector>::limit(),
+            Kind::Profile => State::<Profile>::limit(),
+            Kind::Measurement => State::<MeasurementClass>::limit(),
+            Kind::Energisation => State::<Status>::limit(),
+            Kind::LineLoss => State::<LineLossClass>::limit(),
+            Kind::Group => State::<Group>::limit(),
+            Kind::Advance => Advance::limit(),
+            Kind::Estimate => Estimate::limit(),
         }
     }
 }

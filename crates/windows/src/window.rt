@@ -4,7 +4,16 @@ mod keeping;
 ghost use mathlib.Core.Path.{_≡_};
 ghost use Prim.Native.Nat.{_≤_};
 ghost use lib.ListN.{length};
-use rows::kept::STATE_MAXIMUM;
+use rows::kept::AdvanceKept;
+use rows::kept::AppointmentKept;
+use rows::kept::CollectorValue;
+use rows::kept::EstimateKept;
+use rows::kept::GroupValue;
+use rows::kept::LineLossClassValue;
+use rows::kept::MeasurementClassValue;
+use rows::kept::ProfileValue;
+use rows::kept::StatusValue;
+use rows::kept::SupplierValue;
 use rows::letters::Group;
 use rows::letters::MeasurementClass;
 use rows::letters::Status;
@@ -27,21 +36,21 @@ pub struct Window<T, const MAX: usize> {
 }
 
 // A window of each kind has as many places as rows of the kind are kept at most.
-pub type Registrations = Window<State<Supplier>, { STATE_MAXIMUM }>;
+pub type Registrations = Window<State<Supplier>, { Supplier::MAXIMUM }>;
 
 pub type Appointments = Window<Appointment, { Appointment::MAXIMUM }>;
 
-pub type Collectors = Window<State<Collector>, { STATE_MAXIMUM }>;
+pub type Collectors = Window<State<Collector>, { Collector::MAXIMUM }>;
 
-pub type Profiles = Window<State<Profile>, { STATE_MAXIMUM }>;
+pub type Profiles = Window<State<Profile>, { Profile::MAXIMUM }>;
 
-pub type Measurements = Window<State<MeasurementClass>, { STATE_MAXIMUM }>;
+pub type Measurements = Window<State<MeasurementClass>, { MeasurementClass::MAXIMUM }>;
 
-pub type Energisations = Window<State<Status>, { STATE_MAXIMUM }>;
+pub type Energisations = Window<State<Status>, { Status::MAXIMUM }>;
 
-pub type LineLosses = Window<State<LineLossClass>, { STATE_MAXIMUM }>;
+pub type LineLosses = Window<State<LineLossClass>, { LineLossClass::MAXIMUM }>;
 
-pub type Groups = Window<State<Group>, { STATE_MAXIMUM }>;
+pub type Groups = Window<State<Group>, { Group::MAXIMUM }>;
 
 pub type Advances = Window<Advance, { Advance::MAXIMUM }>;
 
