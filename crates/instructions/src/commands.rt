@@ -26,7 +26,8 @@ pub struct Header {
 }
 
 // What an instruction opens with: the metering system that it is for, its number among those
-// of its source, and the significant day, from which on it says what holds.
+// of its source, and the significant day, which decides with its records from when on stored
+// rows give way to them.
 #[derive(Clone, Copy, PartialEq)]
 pub struct Heading {
     pub system: u64,

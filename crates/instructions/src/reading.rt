@@ -34,10 +34,11 @@ fn check_regimes(n: u8, size: usize, operands: &[u8]) -> Result<(), Cause>
     requires { ⌜ size ≤ 5 ⌝ }
     ensures { λ r. ⌜ r ≡ sought n size (now (operands .entry)) ⌝ }
 {
-    if n < 1 || n > 4 {
+    let regimes = usize::from(n);
+    if regimes < 1 || regimes > ConsumptionSet::MAXIMUM {
         return Err(Cause::OutOfRange);
     }
-    if operands.len() < size + 6 * usize::from(n) {
+    if operands.len() < size + 6 * regimes {
         return Err(Cause::CutShort);
     }
     Ok(())
