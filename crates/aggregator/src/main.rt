@@ -58,13 +58,17 @@ fn run(rt: &LibcRuntime, words: &[String]) -> Result<(), Failure> {
     }
     let names = &words[1..];
     match words[0].as_str() {
-        "inspect" if !names.is_empty() => inspect_all(rt, names),
+        "inspect" if names.is_empty() => {
+            eprintln!(rt, "aggregator: inspect wants at least one file\n{USAGE}")?;
+            Err(Failure::Usage)
+        }
+        "inspect" => inspect_all(rt, names),
         "help" => {
             println!(rt, "{USAGE}")?;
             Ok(())
         }
         word => {
-            eprintln!(rt, "aggregator: cannot do '{word}'\n{USAGE}")?;
+            eprintln!(rt, "aggregator: unknown word '{word}'\n{USAGE}")?;
             Err(Failure::Usage)
         }
     }
