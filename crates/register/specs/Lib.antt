@@ -1,0 +1,3 @@
+pub mod Folders
+pub mod Systems
+pub mod Walks
