@@ -8,6 +8,9 @@ use crate::systems::MeteringSystem;
 impl MeteringSystem {
     pub const LAST: u64 = 9_999_999_999_999;
 
+    // How many numbers each distributor has.
+    const PER_DISTRIBUTOR: u64 = 100_000_000_000;
+
     // The system of a number, if it is one.
     pub fn new(number: u64) -> Option<MeteringSystem>
         ensures { λ r. ⌜ Cases r (Numbered number → ⊥) (λ s. s .number ≡ number) ⌝ }
@@ -29,6 +32,6 @@ impl MeteringSystem {
     pub fn distributor(self) -> u64
         ensures { λ r. ⌜ r ≡ self .number / 100_000_000_000 ⌝ ∗ ⌜ r ≤ 99 ⌝ }
     {
-        self.number / 100_000_000_000
+        Self::number(self) / Self::PER_DISTRIBUTOR
     }
 }
