@@ -13,7 +13,7 @@ use Rattle.std.proofs.shelf.Lists.{length-drop}
 use Rattle.sources.specs.declared.listed.Listed.{Listed}
 use Rattle.sources.specs.declared.listed.Listed.the-variants.{Collector}
 use Rattle.sources.specs.Listings.{Clash}
-use Rattle.sources.specs.Openings.{sourceAt}
+use Rattle.sources.specs.Openings.{sourceAt, FirstClash}
 
 module _ (P : Listed → Type 0) (ss : List Listed) (i : ℕ) (d : Listed) (h : i < length ss) where
   pub holds-at : Decides true (P (getD ss i d)) → P (sourceAt ss i)
@@ -30,21 +30,27 @@ pub behind-length : (ss : List Listed) (i : ℕ) → length (take (length ss - i
 behind-length ss i = ap length (take-rest ss i) ∙ length-drop i ss
 
 module _ (ss : List Listed) (i : ℕ) (d : Listed) (h : i < length ss) where
-  -- a source that clashes with one behind it
-  pub clash-found : (k : ℕ) → k < length (take (length ss - (i + 1)) (drop (i + 1) ss)) → Clash (getD ss i d) (sourceAt (take (length ss - (i + 1)) (drop (i + 1) ss)) k) → (i < i + 1 + k) × (i + 1 + k < length ss) × Clash (sourceAt ss i) (sourceAt ss (i + 1 + k))
-  clash-found k l c =
-      let long = behind-length ss (i + 1) in
-      (omega arith, omega arith, subst (λ s. Clash s (sourceAt ss (i + 1 + k))) (getD-default ss i d (Collector 0) h) (subst (Clash (getD ss i d)) (behind-at ss (i + 1) k) c))
-
-  -- a source that clashes with none behind it
-  clash-none : ((k : ℕ) → k < length (take (length ss - (i + 1)) (drop (i + 1) ss)) → Clash (getD ss i d) (sourceAt (take (length ss - (i + 1)) (drop (i + 1) ss)) k) → ⊥) → (b : ℕ) → i < b → b < length ss → Clash (sourceAt ss i) (sourceAt ss b) → ⊥
-  clash-none none b l m c =
-      let long = behind-length ss (i + 1) in
+  -- what is known of the part behind, of the list
+  clash-at : (Q : ℕ → Type 0) → ((k : ℕ) → Q k → Clash (getD ss i d) (sourceAt (take (length ss - (i + 1)) (drop (i + 1) ss)) k) → ⊥) → (b : ℕ) → i < b → Q (b - (i + 1)) → Clash (sourceAt ss i) (sourceAt ss b) → ⊥
+  clash-at Q none b l q c =
       let at : (i + 1) + (b - (i + 1)) ≡ b = omega arith in
-      none (b - (i + 1)) (omega arith)
+      none (b - (i + 1)) q
       (subst (Clash (getD ss i d)) (sym (behind-at ss (i + 1) (b - (i + 1)) ∙ ap (sourceAt ss) at))
       (subst (λ s. Clash s (sourceAt ss b)) (sym (getD-default ss i d (Collector 0) h)) c))
 
+  -- a source that clashes with one behind it, and with none before that
+  pub clash-found : (k : ℕ) → k < length (take (length ss - (i + 1)) (drop (i + 1) ss)) → Clash (getD ss i d) (sourceAt (take (length ss - (i + 1)) (drop (i + 1) ss)) k) → ((j : ℕ) → j < k → Clash (getD ss i d) (sourceAt (take (length ss - (i + 1)) (drop (i + 1) ss)) j) → ⊥) → ((a b : ℕ) → a < i → a < b → b < length ss → Clash (sourceAt ss a) (sourceAt ss b) → ⊥) → FirstClash ss i (i + 1 + k)
+  clash-found k l c none inv =
+      let long = behind-length ss (i + 1) in
+      record {
+        order = omega arith;
+        inside = omega arith;
+        here = subst (λ s. Clash s (sourceAt ss (i + 1 + k))) (getD-default ss i d (Collector 0) h) (subst (Clash (getD ss i d)) (behind-at ss (i + 1) k) c);
+        before = inv;
+        between = λ b m n e. clash-at (λ j. j < k) none b m (omega arith) e;
+      }
+
   pub apart-more : ((a b : ℕ) → a < i → a < b → b < length ss → Clash (sourceAt ss a) (sourceAt ss b) → ⊥) → ((k : ℕ) → k < length (take (length ss - (i + 1)) (drop (i + 1) ss)) → Clash (getD ss i d) (sourceAt (take (length ss - (i + 1)) (drop (i + 1) ss)) k) → ⊥) → (a b : ℕ) → a < i + 1 → a < b → b < length ss → Clash (sourceAt ss a) (sourceAt ss b) → ⊥
   apart-more inv none a b =
-      below-more (λ e. e < b → b < length ss → Clash (sourceAt ss e) (sourceAt ss b) → ⊥) i (λ e l. inv e b l) (clash-none none b) a
+      below-more (λ e. e < b → b < length ss → Clash (sourceAt ss e) (sourceAt ss b) → ⊥) i (λ e l. inv e b l)
+      (λ l m. let long = behind-length ss (i + 1) in clash-at (λ k. k < length (take (length ss - (i + 1)) (drop (i + 1) ss))) none b l (omega arith)) a

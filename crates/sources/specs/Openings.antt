@@ -21,14 +21,28 @@ Apart ss = (i j : ℕ) → i < j → j < length ss → Clash (sourceAt ss i) (so
 abbrev pub AllInRange : List Listed → Type 0
 AllInRange ss = (i : ℕ) → i < length ss → InRange (sourceAt ss i)
 
+-- the lowest place of a source that is out of range
+pub record FirstOutOfRange (ss : List Listed) (place : ℕ) : Type 0 where
+  pub inside : place < length ss
+  pub here : InRange (sourceAt ss place) → ⊥
+  pub before : (i : ℕ) → i < place → InRange (sourceAt ss i)
+
+-- the lowest place of a source that clashes with a later one, and the lowest place of such a one
+pub record FirstClash (ss : List Listed) (first second : ℕ) : Type 0 where
+  pub order : first < second
+  pub inside : second < length ss
+  pub here : Clash (sourceAt ss first) (sourceAt ss second)
+  pub before : (i j : ℕ) → i < first → i < j → j < length ss → Clash (sourceAt ss i) (sourceAt ss j) → ⊥
+  pub between : (j : ℕ) → first < j → j < second → Clash (sourceAt ss first) (sourceAt ss j) → ⊥
+
 -- at most 128 sources, each in range, and no two that clash
 pub record Lawful (ss : List Listed) : Type 0 where
   pub few : length ss ≤ 128
   pub ranges : AllInRange ss
   pub apart : Apart ss
 
--- the rule that is broken, and where
+-- the rule that is told to be broken, and where: the number first, then the lowest place out of range, then the first two that clash
 abbrev pub Breaks : OpeningFault → List Listed → Type 0
 Breaks TooMany ss = 128 < length ss
-Breaks (OutOfRange place) ss = (place < length ss) × (InRange (sourceAt ss place) → ⊥)
-Breaks (Clashing first second) ss = (first < second) × (second < length ss) × Clash (sourceAt ss first) (sourceAt ss second)
+Breaks (OutOfRange place) ss = (length ss ≤ 128) × FirstOutOfRange ss place
+Breaks (Clashing first second) ss = (length ss ≤ 128) × AllInRange ss × FirstClash ss first second

@@ -5,7 +5,7 @@ ghost use lib.ListN.{length};
 ghost use Rattle.std.specs.Options.{Cases};
 ghost use Rattle.std.specs.Orderings.{Decides};
 ghost use Rattle.sources.specs.Listings.{Clash};
-ghost use Rattle.sources.specs.Openings.{sourceAt, Apart, AllInRange, Lawful, Breaks};
+ghost use Rattle.sources.specs.Openings.{sourceAt, Apart, AllInRange, FirstOutOfRange, FirstClash, Lawful, Breaks};
 use crate::listed::Listed;
 
 // What a book is opened with.
@@ -27,7 +27,7 @@ pub enum OpeningFault {
 
 // The place of the first source that is out of range.
 fn first_out_of_range(sources: &[Listed]) -> Option<usize>
-    ensures { λ r. ⌜ Cases r (AllInRange (now (sources .entry))) (λ i. Breaks (OpeningFault.OutOfRange i) (now (sources .entry))) ⌝ }
+    ensures { λ r. ⌜ Cases r (AllInRange (now (sources .entry))) (FirstOutOfRange (now (sources .entry))) ⌝ }
 {
     for (i, source) in sources.iter().enumerate() {
         if !source.is_in_range() {
@@ -39,7 +39,7 @@ fn first_out_of_range(sources: &[Listed]) -> Option<usize>
 
 // The place of the first of some sources with which a source clashes.
 fn first_against(source: Listed, others: &[Listed]) -> Option<usize>
-    ensures { λ r. ⌜ Cases r ((k : ℕ) → k < length (now (others .entry)) → Clash source (sourceAt (now (others .entry)) k) → ⊥) (λ k. (k < length (now (others .entry))) × Clash source (sourceAt (now (others .entry)) k)) ⌝ }
+    ensures { λ r. ⌜ Cases r ((k : ℕ) → k < length (now (others .entry)) → Clash source (sourceAt (now (others .entry)) k) → ⊥) (λ k. (k < length (now (others .entry))) × Clash source (sourceAt (now (others .entry)) k) × ((j : ℕ) → j < k → Clash source (sourceAt (now (others .entry)) j) → ⊥)) ⌝ }
 {
     for (k, other) in others.iter().enumerate() {
         if source.clashes(other) {
@@ -51,7 +51,7 @@ fn first_against(source: Listed, others: &[Listed]) -> Option<usize>
 
 // The places of two sources that clash.
 fn first_clash(sources: &[Listed]) -> Option<(usize, usize)>
-    ensures { λ r. ⌜ Cases r (Apart (now (sources .entry))) (λ p. Breaks (OpeningFault.Clashing (p .0) (p .1)) (now (sources .entry))) ⌝ }
+    ensures { λ r. ⌜ Cases r (Apart (now (sources .entry))) (λ p. FirstClash (now (sources .entry)) (p .0) (p .1)) ⌝ }
 {
     for (i, source) in sources.iter().enumerate() {
         match first_against(*source, &sources[i + 1..]) {
@@ -66,7 +66,7 @@ impl Opening<'_> {
     // How many sources a book has at most.
     pub const MOST_SOURCES: usize = 128;
 
-    // A rule that the list breaks, with the place; none if a book may be opened with it.
+    // The first rule that the list breaks, with the place; none if a book may be opened with it.
     pub fn fault(&self) -> Option<OpeningFault>
         ensures { λ r. ⌜ Cases r (Lawful (now (now (self .entry) .sources))) (λ fault. Breaks fault (now (now (self .entry) .sources))) ⌝ }
     {

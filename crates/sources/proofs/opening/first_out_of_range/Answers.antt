@@ -5,7 +5,11 @@ use Rattle.sources.proofs.opening.first_out_of_range.Needs as need
 
 pub returns-then-not-is-in-range : need.returns-then-not-is-in-range
 returns-then-not-is-in-range c =
-    (c .loop-i-test .taken, fails-at InRange (c .args .sources .now) (c .loop-i .i) _ (c .loop-i-test .taken) (c .if-not-is-in-range .ensures tt))
+    record {
+      inside = c .loop-i-test .taken;
+      here = fails-at InRange (c .args .sources .now) (c .loop-i .i) _ (c .loop-i-test .taken) (c .if-not-is-in-range .ensures tt);
+      before = c .loop-i .inv;
+    }
 
 pub loop-i-again : need.loop-i-again
 loop-i-again c =
