@@ -9,9 +9,11 @@ use lib.Dec.{eqb, ltb}
 use lib.ListN.{length, getD}
 use Rattle.std.specs.Orderings.{Decides}
 use Rattle.std.specs.declared.option.Option.the-variants.{Some, None}
+use Rattle.std.specs.shelf.Lists.{All}
 use Rattle.std.proofs.shelf.Tests.{false≢true, cond-true, cond-false}
 use Rattle.std.proofs.shelf.Ways.{decides-ltb, decides-eqb, decides-and, decides-or}
 use Rattle.register.specs.Folders.{Pair, Folder, Below, below, nextPair, PairsAscend}
+use Rattle.register.specs.Systems.{Numbered}
 use Rattle.register.specs.Walks.{above}
 
 pub decides-below : (p q : Pair) → Decides (below p q) (Below p q)
@@ -47,7 +49,7 @@ pub rising : (fs : List Folder) → PairsAscend fs → Rising fs
 rising [] h = tt
 rising (f ∷ fs) h = (all-above (f .pair) fs (λ j d l. h 0 (suc j) d (omega arith) (omega arith)), rising fs (λ i j d l m. h (suc i) (suc j) d (omega arith) (omega arith)))
 
-above-all : (p : Pair) (fs : List Folder) → AllAbove p fs → above p fs ≡ fs
+pub above-all : (p : Pair) (fs : List Folder) → AllAbove p fs → above p fs ≡ fs
 above-all p [] h = refl
 above-all p (f ∷ fs) h = cond-true (below p (f .pair)) _ _ (decides-below p (f .pair) .1 (h .0)) ∙ ap (λ gs. f ∷ gs) (above-all p fs (h .1))
 
@@ -93,8 +95,10 @@ next-one p q (f ∷ fs) r e =
           next-one p q fs (r .1) g ∙ ap (λ gs. suc (length gs)) (sym (cond-false (below q (f .pair)) _ _ past))
     ] (decides-below p (f .pair) .0) e
 
-pub above-few : (p : Pair) (fs : List Folder) → length (above p fs) ≤ length fs
-above-few p [] = omega arith
-above-few p (f ∷ fs) =
-    let h = above-few p fs in
-    elim (below p (f .pair)) as (λ b. length (cond b (f ∷ above p fs) (above p fs)) ≤ suc (length fs)) [ true ↦ omega arith | false ↦ omega arith ]
+-- a walk begins below every metering system
+all-from-start : (fs : List Folder) → All (λ f. Numbered (f .pair .0)) fs → AllAbove (0, 0) fs
+all-from-start [] h = tt
+all-from-start (f ∷ fs) h = (inl (h .0 .0), all-from-start fs (h .1))
+
+pub above-start : (fs : List Folder) → All (λ f. Numbered (f .pair .0)) fs → above (0, 0) fs ≡ fs
+above-start fs h = above-all (0, 0) fs (all-from-start fs h)

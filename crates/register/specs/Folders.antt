@@ -16,6 +16,7 @@ use Rattle.rows.specs.Rows.{kindOfRow, startOfRow}
 use Rattle.rows.specs.declared.kinds.Kind.{Kind}
 use Rattle.rows.specs.declared.row.Row.{Row}
 use Rattle.timeline.specs.Finding.{before}
+use Rattle.register.specs.Systems.{Numbered}
 
 -- a metering system and a view of it: 0 for what the agent says, else the id of a collector
 abbrev pub Pair : Type 0
@@ -120,5 +121,6 @@ FolderInForm f = (kind : Kind) → KindInForm kind (f .rows kind)
 
 pub record InForm (places : ℕ) (fs : List Folder) : Type 0 where
   pub ascend : PairsAscend fs
+  pub systems : All (λ f. Numbered (f .pair .0)) fs
   pub folders : All FolderInForm fs
   pub room : length fs ≤ places

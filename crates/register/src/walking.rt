@@ -2,13 +2,12 @@
 ghost use mathlib.Core.Path.{_≡_};
 ghost use Prim.Native.Nat.{ℕ};
 ghost use lib.ListN.{length};
-ghost use Rattle.register.specs.Walks.{above};
 use crate::registers::Register;
 
-// How many folders a walk by `next` comes to. It begins below every metering system, visits each
-// folder once, in ascending order, and ends.
+// How many folders a walk by `next` comes to: it begins below every metering system, visits each
+// folder that is held once, in ascending order, and ends.
 pub fn walk<R: Register>(register: &R) -> usize
-    ensures { λ r. ⌜ r ≡ length (above (0, 0) (R·Register .folders (now (register .entry)))) ⌝ }
+    ensures { λ r. ⌜ r ≡ length (R·Register .folders (now (register .entry))) ⌝ }
 {
     // the count cannot pass this, so it cannot overflow
     let _most = register.held();

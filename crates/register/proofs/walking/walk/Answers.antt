@@ -5,7 +5,7 @@ use lib.ListN.{length}
 use mir.Syntax.{w64}
 use mir.Val.{Fits}
 use Rattle.register.specs.Walks.{above}
-use Rattle.register.proofs.Nexts.{rising, next-one, above-none, above-few}
+use Rattle.register.proofs.Nexts.{rising, next-one, above-none, above-start}
 use Rattle.register.proofs.walking.walk.Needs as need
 
 -- one folder fewer is to come
@@ -18,8 +18,7 @@ pub add-count : need.add-count
 add-count g c =
     let fs = g .R·Register .folders (c .args .register .now) in
     let one = fewer g c in
-    let few = above-few (0, 0) fs in
-    let inv : c .loop-pair .count + length (above (c .loop-pair .at) fs) ≡ length (above (0, 0) fs) = c .loop-pair .inv in
+    let inv : c .loop-pair .count + length (above (c .loop-pair .at) fs) ≡ length fs = c .loop-pair .inv in
     let held : c .held-most .result ≡ length fs = c .held-most .ensures in
     let fits : c .held-most .result < 18446744073709551616 = c .held-most .ok in
     record { fits = omega arith }
@@ -31,12 +30,18 @@ pub loop-pair-again : need.loop-pair-again
 loop-pair-again g c =
     let fs = g .R·Register .folders (c .args .register .now) in
     let one = fewer g c in
-    let inv : c .loop-pair .count + length (above (c .loop-pair .at) fs) ≡ length (above (0, 0) fs) = c .loop-pair .inv in
+    let inv : c .loop-pair .count + length (above (c .loop-pair .at) fs) ≡ length fs = c .loop-pair .inv in
     omega arith
 
 pub returns : need.returns
 returns g c =
     let fs = g .R·Register .folders (c .args .register .now) in
     let none = ap length (above-none (c .loop-pair .at) fs (sym (c .in-rest .ensures tt))) in
-    let inv : c .loop-pair .count + length (above (c .loop-pair .at) fs) ≡ length (above (0, 0) fs) = c .loop-pair .inv in
+    let inv : c .loop-pair .count + length (above (c .loop-pair .at) fs) ≡ length fs = c .loop-pair .inv in
+    omega arith
+
+pub loop-pair-holds : need.loop-pair-holds
+loop-pair-holds g c =
+    let register = c .args .register .now in
+    let all = ap length (above-start (g .R·Register .folders register) (g .R·Register .inForm register .systems)) in
     omega arith

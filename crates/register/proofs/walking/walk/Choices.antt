@@ -8,7 +8,7 @@ use Rattle.register.proofs.walking.walk.Given as given
 abbrev pub Inv-loop-pair : given.InvT-loop-pair
 Inv-loop-pair g l =
     let folders = g .R·Register .folders (l .register) in
-    l .count + length (above (l .at) folders) ≡ length (above (0, 0) folders)
+    l .count + length (above (l .at) folders) ≡ length folders
 
 abbrev pub μ-loop-pair : given.MeasureT-loop-pair
 μ-loop-pair g l = length (above (l .at) (g .R·Register .folders (l .register)))
