@@ -4,8 +4,8 @@ ghost use Prim.Native.Nat.{ℕ};
 ghost use lib.ListN.{length};
 use crate::registers::Register;
 
-// How many folders a walk by `next` comes to: it begins below every metering system, visits each
-// folder that is held once, in ascending order, and ends.
+// How many folders a walk by `next` comes to: as many as are held. It begins below every metering
+// system and goes from each pair to the next. The contract says the number, not the pairs.
 pub fn walk<R: Register>(register: &R) -> usize
     ensures { λ r. ⌜ r ≡ length (R·Register .folders (now (register .entry))) ⌝ }
 {
