@@ -6,8 +6,8 @@ use rows::dated::Dated;
 
 // The place of the last row that starts on or before the day.
 pub fn latest<T: Dated>(rows: &[T], day: u16) -> Option<usize>
-    ensures value { result ≡ latest_on day (map start_of rows.now) }
-    ensures law { Latest day (map start_of rows.now) result }
+    ensures value { result ≡ latest_on day (map T.start_of rows.now) }
+    ensures law { Latest day (map T.start_of rows.now) result }
 {
     for i in (0..rows.len()).rev() {
         if rows[i].start() <= day {
@@ -19,9 +19,9 @@ pub fn latest<T: Dated>(rows: &[T], day: u16) -> Option<usize>
 
 // The place of the row in effect on the day: of the latest, unless the day is past its last.
 pub fn in_effect<T: Dated>(rows: &[T], day: u16) -> Option<usize>
-    ensures value { result ≡ in_effect day (map (term start_of last_of) rows.now) }
+    ensures value { result ≡ in_effect day (map (term T.start_of T.last_of) rows.now) }
     ensures within { IfSome result (λ i. i < length rows.now) }
-    ensures started { ByStarted start_of last_of day rows.now result }
+    ensures started { ByStarted T.start_of T.last_of day rows.now result }
 {
     match latest(rows, day) {
         Some(i) => if day <= rows[i].last() { Some(i) } else { None },
@@ -31,9 +31,9 @@ pub fn in_effect<T: Dated>(rows: &[T], day: u16) -> Option<usize>
 
 // How many rows stand before the first that starts on or after the cut day.
 pub fn kept<T: Dated>(rows: &[T], cut: u16) -> usize
-    ensures value { result ≡ before cut (map start_of rows.now) }
+    ensures value { result ≡ before cut (map T.start_of rows.now) }
     ensures within { result ≤ length rows.now }
-    ensures law { StartedBefore start_of cut rows.now result }
+    ensures law { StartedBefore T.start_of cut rows.now result }
 {
     for (i, row) in rows.iter().enumerate() {
         if row.start() >= cut {
@@ -45,14 +45,14 @@ pub fn kept<T: Dated>(rows: &[T], cut: u16) -> usize
 
 // The rows that stand before the first that starts on or after the cut day.
 pub fn cut<T: Dated>(rows: &[T], day: u16) -> &[T]
-    ensures { result.now ≡ take (before day (map start_of rows.now)) rows.now }
+    ensures { result.now ≡ take (before day (map T.start_of rows.now)) rows.now }
 {
     &rows[0..kept(rows, day)]
 }
 
 // Whether a row can stand behind the first `count`: a place is left, and it starts after the one before it.
 pub fn follows<T: Dated>(rows: &[T], count: usize, row: &T) -> bool
-    ensures { Decides result (Follows start_of row.now count rows.now) }
+    ensures { Decides result (Follows T.start_of row.now count rows.now) }
 {
     count < rows.len() && (count == 0 || rows[count - 1].start() < row.start())
 }

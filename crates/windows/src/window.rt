@@ -1,21 +1,31 @@
 // The rows of one kind that are kept for a metering system: the type, and in `keeping` what is done with it.
 mod keeping;
 
-ghost use Rattle.std.specs.Prelude.{◌≡◌, ◌≤◌, length};
+ghost use Rattle.std.specs.Prelude.{◌≡◌, ◌≤◌, length, ⊤};
 
 use fields::letters::{Group, MeasurementClass, Status};
 use fields::states::{Collector, LineLossClass, Profile, Supplier};
 use rows::kept::{Kept, StateValue};
 use rows::row::{Advance, Appointment, Estimate, State};
+use std::alloc::AllocError;
 
 // The first `count` of the places have a row.
-#[derive(Clone, Copy)]
 pub struct Window<T, const MAX: usize> {
     count: usize,
     rows: [T; MAX],
     ghost places: { length rows ≡ MAX },
     ghost within: { count ≤ MAX },
 }
+
+impl<T: Copy, const MAX: usize> Clone for Window<T, MAX> {
+    ghost is_infallible = { λ _. ⊤ };
+
+    fn clone(&self) -> Result<Window<T, MAX>, AllocError> {
+        Ok(*self)
+    }
+}
+
+impl<T: Copy, const MAX: usize> Copy for Window<T, MAX> {}
 
 // A window of each kind has as many places as rows of the kind are kept at most.
 pub type Registrations = Window<State<Supplier>, { Supplier::MAXIMUM }>;

@@ -4,11 +4,11 @@ use Rattle.market.proofs.Sides.{key_parted, key_apart, key_later}
 use Rattle.market.proofs.combinations.combination_of.Goals as goal
 use Rattle.market.proofs.combinations.combination_of.Goals.{else-place-combinations-via-then-place-combinations+else-is-of, else-place-combinations-via-else-place-combinations}
 
-pub place-of-place-requires : goal.place-of-place-requires
-place-of-place-requires c = key_parted c.args.key c.args.combinations.now c.requires
+pub place_of-place-requires : goal.place_of-place-requires
+place_of-place-requires c = key_parted c.args.key c.args.combinations.now c.requires
 
-pub returns-then-is-of : goal.returns-then-is-of
-returns-then-is-of c =
+pub returns-then-is_of : goal.returns-then-is_of
+returns-then-is_of c =
     let found = c.place-of-place.ensures in
     sym (found_there _ c.args.combinations.now c.requires _ _ (key_apart c.args.key) (key_later c.args.key) c.place-of-place.result found.front found.rest _ c.if-place-combinations.true (sym c.if-is-of.ensures))
 

@@ -2,17 +2,17 @@ use Rattle.std.proofs.Common.{◌≤◌, rules}
 use Rattle.market.proofs.Sides.{start_end, between}
 use Rattle.market.proofs.combinations.part_of.Goals as goal
 
-ordered : (c : goal.After-place-of-end) → c.place-of-start.result ≤ c.place-of-end.result
+ordered : (c : goal.After-place_of-end) → c.place-of-start.result ≤ c.place-of-end.result
 ordered c =
     let start = c.place-of-start.ensures in
     let end = c.place-of-end.ensures in
     start_end c.args.combinations.now c.args.configuration _ _ start.within end.within start.front start.rest end.front end.rest
 
-pub slice-bounds-result-count : goal.slice-bounds-result-count
-slice-bounds-result-count c = ordered c
+pub slice_bounds-result-count : goal.slice_bounds-result-count
+slice_bounds-result-count c = ordered c
 
-pub slice-bounds-result-start : goal.slice-bounds-result-start
-slice-bounds-result-start c = let h : c.place-of-start.result ≤ c.place-of-end.result = ordered c in search rules
+pub slice_bounds-result-start : goal.slice_bounds-result-start
+slice_bounds-result-start c = let h : c.place-of-start.result ≤ c.place-of-end.result = ordered c in search rules
 
 pub returns : goal.returns
 returns c =

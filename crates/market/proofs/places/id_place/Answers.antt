@@ -5,8 +5,8 @@ use Rattle.market.proofs.Parts.{number_parted, number_absent, number_over}
 use Rattle.market.proofs.places.id_place.Goals as goal
 use Rattle.market.proofs.places.id_place.Goals.{else-place-entries-via-then-place-entries+else-id, else-place-entries-via-else-place-entries}
 
-pub place-of-place-requires : goal.place-of-place-requires
-place-of-place-requires g c = number_parted g.X.Identified.id_of c.args.entries.now c.requires c.args.id
+pub place_of-place-requires : goal.place_of-place-requires
+place_of-place-requires g c = number_parted g.X.Identified.id_of c.args.entries.now c.requires c.args.id
 
 pub returns-then-id : goal.returns-then-id
 returns-then-id g c =

@@ -6,8 +6,8 @@ use Rattle.market.proofs.places.place_of.Goals as goal
 pub loop-low-init : goal.loop-low-init
 loop-low-init g c = (omega arith, omega arith, tt, all_past _ (length c.args.entries.now) c.args.entries.now (omega arith))
 
-pub loop-low-preserved-then-is-behind : goal.loop-low-preserved-then-is-behind
-loop-low-preserved-then-is-behind g c =
+pub loop-low-preserved-then-is_behind : goal.loop-low-preserved-then-is_behind
+loop-low-preserved-then-is_behind g c =
     let mid = c.loop-low.low + (c.loop-low.high - c.loop-low.low) / 2 in
     (omega arith, c.loop-low.invariant.1, front_passes _ c.args.entries.now c.requires mid c.index-entries-mid.result (omega arith) c.index-entries-mid.is (sym c.if-is-behind.ensures), c.loop-low.invariant.3)
 

@@ -23,7 +23,7 @@ loop-i-preserved c =
     let i = c.loop-i.i in
     let n = length-map cs listed in
     let h : i < length cs = omega arith in
-    walk_more (λ (l : Listed). l.id) configuration_rule c.loop-i.before (map listed cs) i _ _ (omega arith) (get_or-map listed cs i blank (listed blank) h) (sym c.in-default.ensures) ∙ c.loop-i.invariant
+    walk_more (λ (l : Listed). l.id) configuration_rule c.loop-i.before (map listed cs) i _ _ (omega arith) (get_or-map listed cs i blank (listed blank) h) (sym c.in_default.ensures) ∙ c.loop-i.invariant
 
 pub returns : goal.returns
 returns c =

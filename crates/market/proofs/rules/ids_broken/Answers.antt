@@ -7,7 +7,7 @@ pub returns-in-Some : goal.returns-in-Some
 returns-in-Some c = sym (walk_broken (λ n. n) id_rule c.loop-i.before c.args.ids.now c.loop-i.i 0 _ (omega arith) refl c.in-Some.rule (sym c.in-Some.ensures)) ∙ c.loop-i.invariant
 
 pub loop-i-preserved : goal.loop-i-preserved
-loop-i-preserved c = walk_more (λ n. n) id_rule c.loop-i.before c.args.ids.now c.loop-i.i 0 _ (omega arith) refl (sym c.in-default.ensures) ∙ c.loop-i.invariant
+loop-i-preserved c = walk_more (λ n. n) id_rule c.loop-i.before c.args.ids.now c.loop-i.i 0 _ (omega arith) refl (sym c.in_default.ensures) ∙ c.loop-i.invariant
 
 pub returns : goal.returns
 returns c = sym (walk_all (λ n. n) id_rule c.loop-i.before c.args.ids.now c.loop-i.i (omega arith)) ∙ c.loop-i.invariant

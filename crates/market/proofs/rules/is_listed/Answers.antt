@@ -3,8 +3,8 @@ use Rattle.fields.specs.Ascent.{Ascending}
 use Rattle.market.proofs.Listing.{ids_lent, has_at, listed_if, unlisted_if}
 use Rattle.market.proofs.rules.is_listed.Goals as goal
 
-pub id-place-requires : goal.id-place-requires
-id-place-requires c = subst Ascending (ids_lent c.args.configurations.now) c.requires
+pub id_place-requires : goal.id_place-requires
+id_place-requires c = subst Ascending (ids_lent c.args.configurations.now) c.requires
 
 pub returns-in-Some : goal.returns-in-Some
 returns-in-Some c = listed_if c.args.configurations.now c.args.id (has_at _ c.in-Some.field-0 c.args.id c.in-Some.ensures.placed.0 c.in-Some.ensures.placed.1)

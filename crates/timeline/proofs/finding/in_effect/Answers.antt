@@ -4,8 +4,8 @@ use Rattle.timeline.specs.Finding.{term, in_effect}
 use Rattle.timeline.proofs.Latest.{effect_here, effect_past, effect_none, by_started}
 use Rattle.timeline.proofs.finding.in_effect.Goals as goal
 
-pub offset-bounds-rows-i : goal.offset-bounds-rows-i
-offset-bounds-rows-i g c = omega (arith, c.in-Some.ensures.law.0, length-map c.args.rows.now g.T.Dated.start_of)
+pub offset_bounds-rows-i : goal.offset_bounds-rows-i
+offset_bounds-rows-i g c = omega (arith, c.in-Some.ensures.law.0, length-map c.args.rows.now g.T.Dated.start_of)
 
 pub bounds-rows-i : goal.bounds-rows-i
 bounds-rows-i g c = omega (arith, c.in-Some.ensures.law.0, length-map c.args.rows.now g.T.Dated.start_of)

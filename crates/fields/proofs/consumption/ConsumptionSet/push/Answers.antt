@@ -5,9 +5,13 @@ use Rattle.fields.specs.Padding.{padded_more}
 use Rattle.fields.proofs.SetPaths.{set_path, pushed_room}
 use Rattle.fields.proofs.consumption.ConsumptionSet.push.Goals as goal
 
-pub invariant-of-self : goal.invariant-of-self
-invariant-of-self c =
-    (omega arith, (padded_more _ _ _ _ c.args.self.now.regimes_padded, (padded_more _ _ _ _ c.args.self.now.values_padded, tt)))
+pub invariant_of-self : goal.invariant_of-self
+invariant_of-self c =
+    record {
+      few = omega arith;
+      regimes_padded = padded_more _ _ _ _ c.args.self.now.regimes_padded;
+      values_padded = padded_more _ _ _ _ c.args.self.now.values_padded;
+    }
 
 pub returns : goal.returns
 returns c =

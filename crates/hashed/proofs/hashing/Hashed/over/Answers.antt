@@ -4,9 +4,20 @@ use Rattle.blocks.specs.Block.{folder_of}
 use Rattle.hashed.proofs.Room.{places_within}
 use Rattle.hashed.proofs.hashing.Hashed.over.Goals as goal
 
-pub invariant-of-result : goal.invariant-of-result
-invariant-of-result c =
+pub invariant_of-result : goal.invariant_of-result
+invariant_of-result c =
     let long = length-map c.args.blocks.now folder_of in
     let room = places_within c.args.most (length c.fill.new.self) (length c.args.blocks.now) (length c.args.order.now) c.places-of-places.result c.places-of-places.ensures in
     let zeros : (h : ℕ) → h < length c.fill.new.self → get_or c.fill.new.self h 0 ≡ 0 = λ h l. c.fill.ensures.clones h 0 (omega (arith, c.fill.ensures.len)) refl in
-    (omega arith, (room.narrow, (omega (arith, room.blocked), (room.listed, (room.headed, (zeros, (λ b l. absurd (omega arith), (λ i l. absurd (omega arith), (refl, (λ i d l. absurd (omega arith), tt))))))))))
+    record {
+      used = omega arith;
+      narrow = room.narrow;
+      blocked = omega (arith, room.blocked);
+      listed = room.listed;
+      headed = room.headed;
+      heading = zeros;
+      linking = λ b l. absurd (omega arith);
+      inside = λ i l. absurd (omega arith);
+      keyed = refl;
+      systems = λ i d l. absurd (omega arith);
+    }

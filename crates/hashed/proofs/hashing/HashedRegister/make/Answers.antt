@@ -2,11 +2,20 @@ use Rattle.register.proofs.Keeping.{systems_made}
 use Rattle.hashed.specs.Memory.{table_folders}
 use Rattle.hashed.proofs.hashing.HashedRegister.make.Goals as goal
 
-pub invariant-of-self : goal.invariant-of-self
-invariant-of-self c =
+pub invariant_of-self : goal.invariant_of-self
+invariant_of-self c =
     let sound = c.make.ensures.sound in
     let fs = table_folders c.args.self.now.table in
-    let systems = systems_made c.make.result (c.number.result, c.args.view) fs _ c.make.ensures.after c.number.ensures.1 c.args.self.now.systems in (
-      sound.used,
-      (sound.narrow, (sound.blocked, (sound.listed, (sound.headed, (sound.linked.heading, (sound.linked.linking, (sound.ordered.inside, (sound.ordered.keyed, (systems, tt))))))))),
-    )
+    let systems = systems_made c.make.result (c.number.result, c.args.view) fs _ c.make.ensures.after c.number.ensures.1 c.args.self.now.systems in
+    record {
+      used = sound.used;
+      narrow = sound.narrow;
+      blocked = sound.blocked;
+      listed = sound.listed;
+      headed = sound.headed;
+      heading = sound.linked.heading;
+      linking = sound.linked.linking;
+      inside = sound.ordered.inside;
+      keyed = sound.ordered.keyed;
+      systems = systems;
+    }

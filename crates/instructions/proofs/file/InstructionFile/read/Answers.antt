@@ -9,10 +9,10 @@ pub returns : goal.returns
 returns c =
     let xs = c.args.bytes.now in
     let r = c.new-reader.ensures in
-    let o = c.in-ok-header.ensures in
-    let b = c.in-ok-read-instructions.ensures in
-    let e = c.in-ok-read-end.ensures in
-    let h = c.in-ok-header.header in
+    let o = c.in_ok-header.ensures in
+    let b = c.in_ok-read_instructions.ensures in
+    let e = c.in_ok-read_end.ensures in
+    let h = c.in_ok-header.header in
     let s1 = r.bytes in
     let s2 = o.bytes ∙ s1 in
     let s3 = b.bytes ∙ s2 in

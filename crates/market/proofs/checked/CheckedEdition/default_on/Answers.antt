@@ -10,26 +10,26 @@ use Rattle.market.proofs.checked.CheckedEdition.default_on.Goals as goal
 pub returns-then-not-self : goal.returns-then-not-self
 returns-then-not-self c = sym (cond-false _ _ _ (failed c.args.self.now c.if-not-self.true))
 
-pub combination-of-requires : goal.combination-of-requires
-combination-of-requires c = (sound c.args.self.now c.if-not-self.false).combinations_ascend
+pub combination_of-requires : goal.combination_of-requires
+combination_of-requires c = (sound c.args.self.now c.if-not-self.false).combinations_ascend
 
-pub returns-then-is-on : goal.returns-then-is-on
-returns-then-is-on c =
+pub returns-then-is_on : goal.returns-then-is_on
+returns-then-is_on c =
     let checked = c.args.self.now in
     let found = c.in-Some.found in
     let fits : SFits w32 found.default = search rules in
     ap Some (to_z-of_z w32 found.default fits)
     ∙ sym
     (cond-true _ _ _ (passed checked c.if-not-self.false) ∙ default_is _ c.args.day checked.edition.combinations.now (sound checked c.if-not-self.false).combinations_ascend (Some found) c.in-Some.ensures
-    ∙ ap (λ t. option_map (λ (c : Combination). c.default) (cond t (Some found) None)) (sym c.if-is-on.ensures))
+    ∙ ap (λ t. option_map (λ (c : Combination). c.default) (cond t (Some found) None)) (sym c.if-is_on.ensures))
 
-pub returns-else-is-on : goal.returns-else-is-on
-returns-else-is-on c =
+pub returns-else-is_on : goal.returns-else-is_on
+returns-else-is_on c =
     let checked = c.args.self.now in
     let found = c.in-Some.found in
     sym
     (cond-true _ _ _ (passed checked c.if-not-self.false) ∙ default_is _ c.args.day checked.edition.combinations.now (sound checked c.if-not-self.false).combinations_ascend (Some found) c.in-Some.ensures
-    ∙ ap (λ t. option_map (λ (c : Combination). c.default) (cond t (Some found) None)) (sym c.if-is-on.ensures))
+    ∙ ap (λ t. option_map (λ (c : Combination). c.default) (cond t (Some found) None)) (sym c.if-is_on.ensures))
 
 pub returns-in-None : goal.returns-in-None
 returns-in-None c =

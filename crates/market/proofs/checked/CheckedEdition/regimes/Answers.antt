@@ -6,8 +6,8 @@ use Rattle.market.proofs.Listing.{ids_lent}
 use Rattle.market.proofs.Verdicts.{sound, passed, failed}
 use Rattle.market.proofs.checked.CheckedEdition.regimes.Goals as goal
 
-pub id-place-requires : goal.id-place-requires
-id-place-requires c = subst Ascending (ids_lent c.args.self.now.edition.configurations.now) (sound c.args.self.now c.if-not-self.false).configurations_ascend
+pub id_place-requires : goal.id_place-requires
+id_place-requires c = subst Ascending (ids_lent c.args.self.now.edition.configurations.now) (sound c.args.self.now c.if-not-self.false).configurations_ascend
 
 pub returns-then-not-self : goal.returns-then-not-self
 returns-then-not-self c = sym (cond-false _ _ _ (failed c.args.self.now c.if-not-self.true))

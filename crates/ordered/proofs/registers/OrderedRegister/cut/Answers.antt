@@ -4,8 +4,8 @@ use Rattle.register.proofs.Keeping.{systems_changed}
 use Rattle.ordered.specs.Memory.{folders_held}
 use Rattle.ordered.proofs.registers.OrderedRegister.cut.Goals as goal
 
-pub invariant-of-self : goal.invariant-of-self
-invariant-of-self c =
+pub invariant_of-self : goal.invariant_of-self
+invariant_of-self c =
     let self = c.args.self.now in
     let systems : Systems (folders_held c.cut.new.self) = systems_changed true (c.number.result, c.args.view) _ (folders_held self.memory) (folders_held c.cut.new.self) c.cut.ensures.after self.systems in
     search rules

@@ -18,11 +18,14 @@ listed g c = omega (arith, (c.if-not-follows.ensures.0 refl).0)
 pub bounds-self-count : goal.bounds-self-count
 bounds-self-count g c = omega (arith, (c.if-not-follows.ensures.0 refl).0)
 
-pub overflow-add-self : goal.overflow-add-self
-overflow-add-self g c = omega (arith, (c.if-not-follows.ensures.0 refl).0)
+pub overflow_add-self : goal.overflow_add-self
+overflow_add-self g c = omega (arith, (c.if-not-follows.ensures.0 refl).0)
 
-pub invariant-of-self : goal.invariant-of-self
-invariant-of-self g c = (length-set c.args.self.now.rows c.args.self.now.count c.args.row ∙ c.args.self.now.places, (omega (arith, (c.if-not-follows.ensures.0 refl).0), tt))
+pub invariant_of-self : goal.invariant_of-self
+invariant_of-self g c = record {
+  places = length-set c.args.self.now.rows c.args.self.now.count c.args.row ∙ c.args.self.now.places;
+  within = omega (arith, (c.if-not-follows.ensures.0 refl).0);
+}
 
 pub returns : goal.returns
 returns g c =

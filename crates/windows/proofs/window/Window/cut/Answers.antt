@@ -5,10 +5,10 @@ use Rattle.timeline.specs.Finding.{before}
 use Rattle.windows.proofs.Ascents.{rows_taken}
 use Rattle.windows.proofs.window.Window.cut.Goals as goal
 
-pub invariant-of-self : goal.invariant-of-self
-invariant-of-self g c =
+pub invariant_of-self : goal.invariant_of-self
+invariant_of-self g c =
     let long = ap length c.rows.ensures ∙ length-take c.args.self.now.count c.args.self.now.rows in
-    (c.args.self.now.places, (omega (arith, c.kept-count.ensures.within), tt))
+    record { places = c.args.self.now.places; within = omega (arith, c.kept-count.ensures.within) }
 
 pub returns : goal.returns
 returns g c =

@@ -2,5 +2,5 @@ use Rattle.std.proofs.Common.{arith}
 use Rattle.std.proofs.lemmas.List.{length-replicate}
 use Rattle.windows.proofs.window.Window.empty.Goals as goal
 
-pub invariant-of-result : goal.invariant-of-result
-invariant-of-result g c = (length-replicate g.row.MAX c.blank.result, (omega arith, tt))
+pub invariant_of-result : goal.invariant_of-result
+invariant_of-result g c = record { places = length-replicate g.row.MAX c.blank.result; within = omega arith }
