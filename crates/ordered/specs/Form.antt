@@ -6,6 +6,7 @@ use Rattle.std.proofs.ByRecursion.{All-weaker, All-get_or}
 use Rattle.std.proofs.lemmas.List.{length-map, get_or-map}
 use Rattle.std.proofs.lemmas.Bool.{cond_both, cases_Bool, and_parts, eqb-true, ltb-true}
 use Rattle.register.specs.Folders.{Pair, Rows, Folder, same, same_kind, rows_of, FolderInForm, Systems, InForm}
+use Rattle.register.proofs.Keeping.{all_systems}
 use Rattle.register.proofs.Pairs.{below_not_same, same_is, is_same}
 use Rattle.register.proofs.Rising.{Under, Rising, under_lower, rising_ascends}
 use Rattle.fields.specs.Ascent.{Ascending}
@@ -146,7 +147,7 @@ form_in (e ∷ es) h few = let b = (and_parts (is_folder e.row) (in_order_from e
 pub in_form_lem : (places : ℕ) (xs : List Entry) → in_order xs ≡ true → Systems (folders_of xs) → Few xs → length (folders_of xs) ≤ places → InForm places (folders_of xs)
 in_form_lem places xs h systems few room =
     let up = rising xs h in
-    record { ascend = rising_ascends (folders_of xs) up; systems = systems; folders = form_in xs h (few_each (folders_of xs) up few); room = room }
+    record { ascend = rising_ascends (folders_of xs) up; systems = all_systems _ systems; folders = form_in xs h (few_each (folders_of xs) up few); room = room }
 
 pub held_within : {held places n : ℕ} → held ≡ n → held ≤ places → n ≤ places
 held_within e h = omega arith

@@ -18,10 +18,10 @@ module _ (P : Pair → Type 0) where
   all_changed p change (f ∷ fs) a = cond_both (same p f.pair) _ _ (All (λ g. P g.pair)) (λ e. a) (λ e. (a.0, all_changed p change fs a.1))
 
 -- of each folder by its place, or of all of them
-all_systems : (fs : List Folder) → Systems fs → All (λ f. Numbered f.pair.0) fs
+pub all_systems : (fs : List Folder) → Systems fs → All (λ f. Numbered f.pair.0) fs
 all_systems fs h = all_from_every (λ f. Numbered f.pair.0) fs (λ i d _ l. h i d l)
 
-systems_all : (fs : List Folder) → All (λ f. Numbered f.pair.0) fs → Systems fs
+pub systems_all : (fs : List Folder) → All (λ f. Numbered f.pair.0) fs → Systems fs
 systems_all fs a i d l = All-get_or (λ f. Numbered f.pair.0) fs i d l a
 
 -- what a call that may refuse leaves: a folder more, or one changed, or all as it was

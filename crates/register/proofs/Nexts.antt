@@ -1,5 +1,5 @@
 -- The next pair is the first of those that are to come.
-use Rattle.std.proofs.Common.{◌≡◌, ℕ, ◌<◌, true, false, cond, List, [], ◌∷◌, length, get_or, Some, None, Option, sym, refl, ap, ◌∙◌, subst, inl, arith}
+use Rattle.std.proofs.Common.{◌≡◌, ℕ, suc, ◌<◌, true, false, cond, List, [], ◌∷◌, length, get_or, Some, None, Option, sym, refl, ap, ◌∙◌, subst, inl, arith}
 use Rattle.std.specs.Iterator.{Drains}
 use Rattle.std.proofs.ByRecursion.{all_from_every}
 use Rattle.std.proofs.lemmas.List.{length-map}
@@ -47,6 +47,10 @@ next_some p q (f ∷ fs) r e =
 
 pub fewer : (p q : Pair) (fs : List Folder) → pairs_of (above p fs) ≡ q ∷ pairs_of (above q fs) → length (above q fs) < length (above p fs)
 fewer p q fs e = omega (arith, ap length e, length-map (above p fs) (λ f. f.pair), length-map (above q fs) (λ f. f.pair))
+
+-- above the next pair is one folder fewer
+pub next_one : (p q : Pair) (fs : List Folder) → Rising fs → next_pair p fs ≡ Some q → length (above p fs) ≡ suc (length (above q fs))
+next_one p q fs r e = omega (arith, ap length (next_some p q fs r e), length-map (above p fs) (λ f. f.pair), length-map (above q fs) (λ f. f.pair))
 
 -- a walk begins below every metering system
 pub above_start : (fs : List Folder) → Systems fs → above (0, 0) fs ≡ fs

@@ -110,6 +110,10 @@ pub record KindInForm (kind : Kind) (rs : List Row) : Type 0 where
 abbrev pub FolderInForm : Folder → Type 0
 FolderInForm f = (kind : Kind) → KindInForm kind (f.rows kind)
 
+-- every folder is of a metering system: the same as `systems` below, place by place
+abbrev pub Systems : List Folder → Type 0
+Systems fs = (i : ℕ) (d : Folder) → i < length fs → Numbered (slice_index_or fs i d).pair.0
+
 pub record InForm (places : ℕ) (fs : List Folder) : Type 0 where
   pub ascend : PairsAscend fs
   pub systems : All (λ f. Numbered f.pair.0) fs

@@ -1,16 +1,8 @@
-use Rattle.std.proofs.Common.{◌≡◌, ◌<◌, length, ap, ◌∙◌, arith}
+use Rattle.std.proofs.Common.{length, ap, ◌∙◌}
 use Rattle.std.proofs.lemmas.List.{length-map}
 use Rattle.register.specs.Walks.{above, pairs_of}
 use Rattle.register.proofs.Nexts.{drained}
 use Rattle.register.proofs.walking.steps.walked.Goals as goal
-
-pub count-requires : goal.count-requires
-count-requires g c =
-    let fs = g.R.Register.folders c.args.register.now in
-    let left = above (c.of.result.system, c.of.result.view) (g.R.Register.folders c.of.result.register.now) in
-    let many : c.held-most.result ≡ length fs = c.held-most.ensures in
-    let fits : c.held-most.result < 18446744073709551616 = c.held-most.type-inv in
-    record { can = tt; finite = tt; fits = omega (arith, ap length c.of.ensures.all, length-map left (λ f. f.pair), length-map fs (λ f. f.pair)) }
 
 pub returns : goal.returns
 returns g c =
