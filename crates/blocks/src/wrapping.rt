@@ -127,14 +127,14 @@ impl Wrap for Estimate {
 
 // How many rows a window has.
 pub(crate) fn count<T: Wrap, const MAX: usize>(window: &Window<T, MAX>) -> usize
-    ensures { result ≡ length (wrapped wrap window.now) }
+    ensures { result ≡ length (wrapped T.wrap window.now) }
 {
     window.count()
 }
 
 // The row at a place.
 pub(crate) fn read<T: Wrap, const MAX: usize>(window: &Window<T, MAX>, place: usize) -> Option<Row>
-    ensures { result ≡ slice_get (wrapped wrap window.now) place }
+    ensures { result ≡ slice_get (wrapped T.wrap window.now) place }
 {
     let rows = window.rows();
     if place < rows.len() {
@@ -146,15 +146,15 @@ pub(crate) fn read<T: Wrap, const MAX: usize>(window: &Window<T, MAX>, place: us
 
 // Keeps the rows that start before a day.
 pub(crate) fn cut<T: Wrap, const MAX: usize>(window: &mut Window<T, MAX>, day: u16)
-    ensures { wrapped wrap window.new ≡ kept_rows day (wrapped wrap window.old) }
+    ensures { wrapped T.wrap window.new ≡ kept_rows day (wrapped T.wrap window.old) }
 {
     window.cut(day);
 }
 
 // Adds a row behind the others, if there is a place and it starts after the last.
 pub(crate) fn add<T: Wrap, const MAX: usize>(window: &mut Window<T, MAX>, row: T) -> bool
-    ensures answer { result ≡ (nat_lt (length (wrapped wrap window.old)) MAX && starts_after (wrapped wrap window.old) (wrap row)) }
-    ensures after { wrapped wrap window.new ≡ (if result then wrapped wrap window.old ++ wrap row ∷ [] else wrapped wrap window.old) }
+    ensures answer { result ≡ (nat_lt (length (wrapped T.wrap window.old)) MAX && starts_after (wrapped T.wrap window.old) (T.wrap row)) }
+    ensures after { wrapped T.wrap window.new ≡ (if result then wrapped T.wrap window.old ++ T.wrap row ∷ [] else wrapped T.wrap window.old) }
 {
     window.add(row)
 }
