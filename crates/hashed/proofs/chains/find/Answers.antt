@@ -14,10 +14,10 @@ returns-then-heads-eq0 c =
 pub loop-at-init : goal.loop-at-init
 loop-at-init c = walk_start c.args.heads.now (folders_of c.args.blocks.now) (links_of c.args.blocks.now) c.args.count _ c.requires.linked c.home.result c.home.ensures.value c.home.ensures.below
 
-pub returns-then-is-at : goal.returns-then-is-at
-returns-then-is-at c =
+pub returns-then-is_at : goal.returns-then-is_at
+returns-then-is_at c =
     let f = pair_at (folders_of c.args.blocks.now) in
-    record { value = sym (seek_here f (c.args.system, c.args.view) c.loop-at.at (omega arith) (sym c.if-is-at.ensures)) ∙ c.loop-at.invariant.rest; within = c.loop-at.invariant.within }
+    record { value = sym (seek_here f (c.args.system, c.args.view) c.loop-at.at (omega arith) (sym c.if-is_at.ensures)) ∙ c.loop-at.invariant.rest; within = c.loop-at.invariant.within }
 
 pub loop-at-smaller : goal.loop-at-smaller
 loop-at-smaller c =
@@ -32,4 +32,4 @@ loop-at-preserved c =
     let k : Pair = (c.args.system, c.args.view) in
     let h : c.loop-at.at - 1 < length c.args.blocks.now = omega (arith, c.loop-at.invariant.within) in
     subst (Walk (pair_at (folders_of bs)) (length c.args.heads.now) k c.args.count) (link_at bs (c.loop-at.at - 1) c.index-blocks-at.result h)
-    (walk_on c.args.heads.now (folders_of bs) (links_of bs) c.args.count k c.requires.linked c.loop-at.at (omega arith) c.loop-at.invariant (sym c.if-is-at.ensures))
+    (walk_on c.args.heads.now (folders_of bs) (links_of bs) c.args.count k c.requires.linked c.loop-at.at (omega arith) c.loop-at.invariant (sym c.if-is_at.ensures))

@@ -5,5 +5,5 @@ use Rattle.hashed.proofs.chains.is_at.Goals as goal
 
 pub returns : goal.returns
 returns c =
-    c.is-of.ensures
+    c.is_of.ensures
     ∙ ap (λ f. same (c.args.system, c.args.view) f.pair) (sym (folder_read c.args.blocks.now c.args.at c.index-blocks-at.result c.requires c.index-blocks-at.is))

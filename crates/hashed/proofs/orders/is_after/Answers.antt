@@ -5,5 +5,5 @@ use Rattle.hashed.proofs.orders.is_after.Goals as goal
 
 pub returns : goal.returns
 returns c =
-    c.comes-after.ensures
+    c.comes_after.ensures
     ∙ ap (λ f. below (c.args.system, c.args.view) f.pair) (sym (folder_read c.args.blocks.now c.args.at c.index-blocks-at.result c.requires c.index-blocks-at.is))

@@ -12,18 +12,18 @@ loop-low-init c =
     let ks = keys fs c.args.order.now c.args.count in
     (omega arith, omega arith, tt, subst (All (λ q. below (c.args.system, c.args.view) q ≡ true)) (sym (drop_all c.args.count ks (omega (arith, long fs c.args.order.now c.args.count c.requires.listed c.requires.ordered)))) tt)
 
-pub is-after-requires : goal.is-after-requires
-is-after-requires c = omega (arith, c.requires.ordered.inside (c.loop-low.low + (c.loop-low.high - c.loop-low.low) / 2) (omega arith))
+pub is_after-requires : goal.is_after-requires
+is_after-requires c = omega (arith, c.requires.ordered.inside (c.loop-low.low + (c.loop-low.high - c.loop-low.low) / 2) (omega arith))
 
-pub loop-low-preserved-then-is-after : goal.loop-low-preserved-then-is-after
-loop-low-preserved-then-is-after c =
+pub loop-low-preserved-then-is_after : goal.loop-low-preserved-then-is_after
+loop-low-preserved-then-is_after c =
     let mid = c.loop-low.low + (c.loop-low.high - c.loop-low.low) / 2 in
-    (omega arith, omega arith, c.loop-low.invariant.2, down (folders_of c.args.blocks.now) c.args.order.now c.args.count c.requires.listed c.requires.ordered (c.args.system, c.args.view) mid (omega arith) (sym c.if-is-after.ensures))
+    (omega arith, omega arith, c.loop-low.invariant.2, down (folders_of c.args.blocks.now) c.args.order.now c.args.count c.requires.listed c.requires.ordered (c.args.system, c.args.view) mid (omega arith) (sym c.if-is_after.ensures))
 
 pub loop-low-preserved : goal.loop-low-preserved
 loop-low-preserved c =
     let mid = c.loop-low.low + (c.loop-low.high - c.loop-low.low) / 2 in
-    (omega arith, omega arith, up (folders_of c.args.blocks.now) c.args.order.now c.args.count c.requires.listed c.requires.ordered (c.args.system, c.args.view) mid (omega arith) (sym c.if-is-after.ensures), c.loop-low.invariant.3)
+    (omega arith, omega arith, up (folders_of c.args.blocks.now) c.args.order.now c.args.count c.requires.listed c.requires.ordered (c.args.system, c.args.view) mid (omega arith) (sym c.if-is_after.ensures), c.loop-low.invariant.3)
 
 pub returns : goal.returns
 returns c =

@@ -7,7 +7,7 @@ use Rattle.hashed.proofs.hashing.Hashed.over.Goals as goal
 pub invariant_of-result : goal.invariant_of-result
 invariant_of-result c =
     let long = length-map c.args.blocks.now folder_of in
-    let room = places_within c.args.most (length c.fill.new.self) (length c.args.blocks.now) (length c.args.order.now) c.places-of-places.result c.places-of-places.ensures in
+    let room = places_within c.args.most (length c.fill.new.self) (length c.args.blocks.now) (length c.args.order.now) c.places_of-places.result c.places_of-places.ensures in
     let zeros : (h : ℕ) → h < length c.fill.new.self → get_or c.fill.new.self h 0 ≡ 0 = λ h l. c.fill.ensures.clones h 0 (omega (arith, c.fill.ensures.len)) refl in
     record {
       used = omega arith;

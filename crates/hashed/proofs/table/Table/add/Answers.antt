@@ -19,8 +19,8 @@ returns-then-found-eq0 c =
       places = refl;
     }
 
-pub add-at-requires : goal.add-at-requires
-add-at-requires c = omega (arith, c.requires.used, c.requires.blocked, length-map c.args.self.now.blocks.now folder_of)
+pub add_at-requires : goal.add_at-requires
+add_at-requires c = omega (arith, c.requires.used, c.requires.blocked, length-map c.args.self.now.blocks.now folder_of)
 
 pub returns : goal.returns
 returns c =
@@ -31,10 +31,10 @@ returns c =
     let n = c.find-found.result in
     let some : 0 < c.find-found.result = omega arith in
     let within : c.find-found.result - 1 < length (folders_of c.args.self.now.blocks.now) = omega (arith, c.requires.used, c.requires.blocked) in
-    let after = folders_of c.add-at.new.blocks in
+    let after = folders_of c.add_at.new.blocks in
     record {
-      sound = sound_if fs t.count k n c.find-found.ensures.value some v within after t.heads.now (links_of t.blocks.now) t.order.now t.places c.requires _ c.add-at.ensures.links c.add-at.result c.add-at.ensures.folders;
-      answer = takes_answer fs t.count k n c.find-found.ensures.value some c.args.row c.add-at.result c.add-at.ensures.answer;
-      after = held_if fs t.count k n c.find-found.ensures.value some v within after c.add-at.result c.add-at.ensures.folders;
+      sound = sound_if fs t.count k n c.find-found.ensures.value some v within after t.heads.now (links_of t.blocks.now) t.order.now t.places c.requires _ c.add_at.ensures.links c.add_at.result c.add_at.ensures.folders;
+      answer = takes_answer fs t.count k n c.find-found.ensures.value some c.args.row c.add_at.result c.add_at.ensures.answer;
+      after = held_if fs t.count k n c.find-found.ensures.value some v within after c.add_at.result c.add_at.ensures.folders;
       places = refl;
     }

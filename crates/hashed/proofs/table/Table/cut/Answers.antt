@@ -8,8 +8,8 @@ use Rattle.hashed.proofs.Filings.{changed_absent}
 use Rattle.hashed.proofs.OtherRows.{absent, held_now, sound_now}
 use Rattle.hashed.proofs.table.Table.cut.Goals as goal
 
-pub cut-at-requires : goal.cut-at-requires
-cut-at-requires c = omega (arith, c.requires.used, c.requires.blocked, length-map c.args.self.now.blocks.now folder_of)
+pub cut_at-requires : goal.cut_at-requires
+cut_at-requires c = omega (arith, c.requires.used, c.requires.blocked, length-map c.args.self.now.blocks.now folder_of)
 
 pub returns : goal.returns
 returns c =
@@ -20,10 +20,10 @@ returns c =
     let n = c.find-found.result in
     let some : 0 < c.find-found.result = omega arith in
     let within : c.find-found.result - 1 < length (folders_of c.args.self.now.blocks.now) = omega (arith, c.requires.used, c.requires.blocked) in
-    let after = folders_of c.cut-at.new.blocks in
+    let after = folders_of c.cut_at.new.blocks in
     record {
-      sound = sound_now fs t.count k n c.find-found.ensures.value some v within after t.heads.now (links_of t.blocks.now) t.order.now t.places c.requires _ c.cut-at.ensures.links c.cut-at.ensures.folders;
-      after = held_now fs t.count k n c.find-found.ensures.value some v within after c.cut-at.ensures.folders;
+      sound = sound_now fs t.count k n c.find-found.ensures.value some v within after t.heads.now (links_of t.blocks.now) t.order.now t.places c.requires _ c.cut_at.ensures.links c.cut_at.ensures.folders;
+      after = held_now fs t.count k n c.find-found.ensures.value some v within after c.cut_at.ensures.folders;
       places = refl;
     }
 
