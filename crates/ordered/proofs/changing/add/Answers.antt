@@ -16,7 +16,7 @@ returns c =
     let xs = take c.args.used.now c.args.entries.now in
     let ok = c.in-Some.ensures.0 in
     let put = c.in-Some.ensures.1 in
-    let is : take (c.args.used.now + 1) c.put.new.entries ≡ insert xs c.in-Some.at (entry c.args.system c.args.view (Some c.args.row)) = c.put.ensures ∙ ap (insert xs c.in-Some.at) c.of-row.ensures in
+    let is : take (c.args.used.now + 1) c.put.new.entries ≡ insert xs c.in-Some.at (entry c.args.system c.args.view (Some c.args.row)) = c.put.ensures ∙ ap (insert xs c.in-Some.at) c.of_row.ensures in
     record {
       sound = added_sound c.args.entries.now c.args.used.now c.requires c.put.new.entries c.put.auto.entries c.args.system c.args.view c.in-Some.at c.args.row ok put is;
       answer = sym ok;

@@ -5,11 +5,11 @@ use Rattle.ordered.specs.Order.{entry}
 use Rattle.ordered.proofs.Sounds.{made_again, make_answer, make_free, room_for_folder, place_within, made_counted}
 use Rattle.ordered.proofs.changing.make.Goals as goal
 
-pub returns-in-default : goal.returns-in-default
-returns-in-default c = record {
+pub returns-in_default : goal.returns-in_default
+returns-in_default c = record {
   counted = c.requires;
-  answer = make_answer c.args.entries.now c.args.used.now c.args.held.now c.args.places c.requires (c.args.system, c.args.view) c.in-default.ensures;
-  after = made_again c.args.entries.now c.args.used.now c.requires.sound (c.args.system, c.args.view) c.in-default.ensures;
+  answer = make_answer c.args.entries.now c.args.used.now c.args.held.now c.args.places c.requires (c.args.system, c.args.view) c.in_default.ensures;
+  after = made_again c.args.entries.now c.args.used.now c.requires.sound (c.args.system, c.args.view) c.in_default.ensures;
 }
 
 pub put-requires : goal.put-requires

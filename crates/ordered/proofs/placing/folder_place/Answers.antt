@@ -17,10 +17,10 @@ returns-then-at-entries c =
     let high = no_pairs s v xs at c.requires found.before found.behind c.if-at-entries.true in
     (unheld s v xs at c.requires found.within low high, put_folder s v xs at c.requires found.within low high)
 
-pub returns-then-is-of : goal.returns-then-is-of
-returns-then-is-of c =
+pub returns-then-is_of : goal.returns-then-is_of
+returns-then-is_of c =
     let found = c.locate-at.ensures in
-    held_there c.args.system c.args.view c.args.entries.now c.locate-at.result c.requires found.before found.behind c.if-at-entries.false c.index-entries-at.result c.index-entries-at.is (sym c.if-is-of.ensures)
+    held_there c.args.system c.args.view c.args.entries.now c.locate-at.result c.requires found.before found.behind c.if-at-entries.false c.index-entries-at.result c.index-entries-at.is (sym c.if-is_of.ensures)
 
 pub returns : goal.returns
 returns c =
@@ -30,5 +30,5 @@ returns c =
     let at = c.locate-at.result in
     let found = c.locate-at.ensures in
     let low = lower_pairs s v xs at c.requires found.before found.behind in
-    let high = higher_pairs s v xs at c.requires found.before found.behind c.if-at-entries.false c.index-entries-at.result c.index-entries-at.is (sym c.if-is-of.ensures) in
+    let high = higher_pairs s v xs at c.requires found.before found.behind c.if-at-entries.false c.index-entries-at.result c.index-entries-at.is (sym c.if-is_of.ensures) in
     (unheld s v xs at c.requires found.within low high, put_folder s v xs at c.requires found.within low high)

@@ -12,18 +12,18 @@ pub returns-then-count-maximum : goal.returns-then-count-maximum
 returns-then-count-maximum c =
     refuse_full c.args.system c.args.view c.args.row c.args.entries.now c.kind-kind.result c.kind-kind.ensures c.part-from.result.0 c.part-from.result.1 c.part-from.ensures c.requires c.maximum.result c.maximum.ensures c.if-count-maximum.true
 
-pub returns-then-not-is-of : goal.returns-then-not-is-of
-returns-then-not-is-of c =
-    refuse_other c.args.system c.args.view c.args.row c.args.entries.now c.kind-kind.result c.kind-kind.ensures c.part-from.result.0 c.part-from.result.1 c.part-from.ensures c.requires c.index-entries-at.result c.index-entries-at.is (sym c.if-not-is-of.ensures)
+pub returns-then-not-is_of : goal.returns-then-not-is_of
+returns-then-not-is_of c =
+    refuse_other c.args.system c.args.view c.args.row c.args.entries.now c.kind-kind.result c.kind-kind.ensures c.part-from.result.0 c.part-from.result.1 c.part-from.ensures c.requires c.index-entries-at.result c.index-entries-at.is (sym c.if-not-is_of.ensures)
 
 pub returns-then-not-before : goal.returns-then-not-before
 returns-then-not-before c =
-    let keys : false ≡ lower (key_of c.index-entries-at.result) (key_of c.of-row.result) = c.if-not-before.ensures ∙ ap (λ (k : Key). lower k c.key-2.result) c.key.ensures ∙ ap (lower (key_of c.index-entries-at.result)) c.key-2.ensures in
-    refuse_early c.args.system c.args.view c.args.row c.args.entries.now c.kind-kind.result c.kind-kind.ensures c.part-from.result.0 c.part-from.result.1 c.part-from.ensures c.requires c.index-entries-at.result c.index-entries-at.is c.if-at-eq0.false (sym c.if-not-is-of.ensures)
-    (sym (keys ∙ ap (λ e. lower (key_of c.index-entries-at.result) (key_of e)) c.of-row.ensures))
+    let keys : false ≡ lower (key_of c.index-entries-at.result) (key_of c.of_row.result) = c.if-not-before.ensures ∙ ap (λ (k : Key). lower k c.key-2.result) c.key.ensures ∙ ap (lower (key_of c.index-entries-at.result)) c.key-2.ensures in
+    refuse_early c.args.system c.args.view c.args.row c.args.entries.now c.kind-kind.result c.kind-kind.ensures c.part-from.result.0 c.part-from.result.1 c.part-from.ensures c.requires c.index-entries-at.result c.index-entries-at.is c.if-at-eq0.false (sym c.if-not-is_of.ensures)
+    (sym (keys ∙ ap (λ e. lower (key_of c.index-entries-at.result) (key_of e)) c.of_row.ensures))
 
 pub returns : goal.returns
 returns c =
-    let keys : true ≡ lower (key_of c.index-entries-at.result) (key_of c.of-row.result) = c.if-not-before.ensures ∙ ap (λ (k : Key). lower k c.key-2.result) c.key.ensures ∙ ap (lower (key_of c.index-entries-at.result)) c.key-2.ensures in
-    accept c.args.system c.args.view c.args.row c.args.entries.now c.kind-kind.result c.kind-kind.ensures c.part-from.result.0 c.part-from.result.1 c.part-from.ensures c.requires c.index-entries-at.result c.index-entries-at.is c.if-at-eq0.false (sym c.if-not-is-of.ensures) c.maximum.result c.maximum.ensures c.if-count-maximum.false
-    (sym (keys ∙ ap (λ e. lower (key_of c.index-entries-at.result) (key_of e)) c.of-row.ensures))
+    let keys : true ≡ lower (key_of c.index-entries-at.result) (key_of c.of_row.result) = c.if-not-before.ensures ∙ ap (λ (k : Key). lower k c.key-2.result) c.key.ensures ∙ ap (lower (key_of c.index-entries-at.result)) c.key-2.ensures in
+    accept c.args.system c.args.view c.args.row c.args.entries.now c.kind-kind.result c.kind-kind.ensures c.part-from.result.0 c.part-from.result.1 c.part-from.ensures c.requires c.index-entries-at.result c.index-entries-at.is c.if-at-eq0.false (sym c.if-not-is_of.ensures) c.maximum.result c.maximum.ensures c.if-count-maximum.false
+    (sym (keys ∙ ap (λ e. lower (key_of c.index-entries-at.result) (key_of e)) c.of_row.ensures))
