@@ -1,5 +1,5 @@
 -- What the law says of the answer of a call.
-use Rattle.std.proofs.Common.{◌≡◌, ℕ, suc, ◌<◌, List, [], ◌∷◌, get_or, Ok, Err, Result, sym, ◌∙◌, arith, w8, Fits}
+use Rattle.std.proofs.Common.{◌≡◌, ℕ, suc, List, [], ◌∷◌, get_or, Ok, Err, Result, sym, ◌∙◌, w8, Fits}
 use Rattle.instructions.specs.declared.faults.FileFault.{FileFault}
 use Rattle.instructions.specs.Files.{File, read_file}
 use Rattle.format.specs.Format.{Bytes, Lawful, Found}

@@ -1,5 +1,5 @@
 -- Records and their bytes: a row in range is read back from what is written of it, and a row that is read is in range and written as it stood.
-use Rattle.std.proofs.Common.{◌≡◌, ℕ, ◌+◌, ◌*◌, ◌≤◌, Bool, true, ◌&&◌, List, ◌∷◌, ◌++◌, length, drop, Some, Ok, Err, Option, Result, sym, refl, ap, ◌∙◌, subst, arith}
+use Rattle.std.proofs.Common.{◌≡◌, ℕ, ◌+◌, ◌*◌, ◌≤◌, Bool, true, ◌&&◌, List, ◌∷◌, ◌++◌, length, drop, Some, Ok, Err, Option, sym, refl, ap, ◌∙◌, subst, arith}
 use Rattle.std.proofs.lemmas.List.{length-append}
 use Rattle.std.proofs.lemmas.Bool.{leb-true, le-leb, and_parts, and_from, cond-true}
 use Rattle.fields.specs.Days.{is_day}
@@ -13,7 +13,6 @@ use Rattle.rows.specs.declared.kinds.Kind.{Kind}
 use Rattle.rows.specs.declared.kinds.Kind.TheVariants as kind
 use Rattle.rows.specs.declared.row.Row.{Row}
 use Rattle.rows.specs.declared.row.Row.TheVariants.{Registration, Appointment, Collector, Profile, Measurement, Energisation, LineLoss, Group, Advance, Estimate}
-use Rattle.commands.specs.declared.causes.Cause.{Cause}
 use Rattle.commands.specs.declared.causes.Cause.TheVariants.{OutOfRange}
 use Rattle.commands.specs.Commands.{fixed_size, whole, ranged, sought, listed, record_of, set_size}
 use Rattle.format.specs.Format.{Bytes}

@@ -1,5 +1,7 @@
 // Instruction files, read by the law of their format: what is accepted, and what a fault says, in
 // terms of well-formed files and how they are written, and not of how they are read.
+#![tactic(auto)]
+
 ghost use Rattle.std.specs.Prelude.{◌≡◌, IfOk};
 ghost use Rattle.instructions.specs.Files.{read_file, header_of, commands_in};
 ghost use Rattle.instructions.specs.Meanings.{said};

@@ -1,12 +1,10 @@
 -- Walking the commands of a file one by one.
-use Rattle.std.proofs.Common.{◌≡◌, ℕ, ◌-◌, ◌<◌, ◌≤◌, List, [], ◌∷◌, length, take, drop, Some, None, Ok, Err, Option, sym, refl, ap, ◌∙◌, subst, arith}
+use Rattle.std.proofs.Common.{◌≡◌, ℕ, ◌-◌, ◌<◌, List, [], length, take, drop, Ok, Err, sym, ap, ◌∙◌, subst, arith}
 use Rattle.std.proofs.lemmas.List.{take_rest, length-drop}
-use Rattle.rows.specs.declared.row.Row.{Row}
 use Rattle.commands.specs.declared.command.Command.{Command}
-use Rattle.commands.specs.declared.command.Heading.{Heading}
 use Rattle.commands.specs.declared.causes.Cause.{Cause}
 use Rattle.commands.specs.Commands.{command_in, width_of, heading_in, record_in}
-use Rattle.instructions.specs.Files.{commands_in, records_of, instructions_of, taken, begun, change}
+use Rattle.instructions.specs.Files.{commands_in, records_of, instructions_of, taken, begun}
 use Rattle.instructions.specs.Walks.{Split}
 use Rattle.instructions.proofs.Onward.{width_some, commands_next, commands_stop}
 use Rattle.commands.proofs.Widths.{width_within}

@@ -1,5 +1,5 @@
 -- What a command is between two instructions, as the stage that it leads to.
-use Rattle.std.specs.Prelude.{ℕ, Some, None, Option}
+use Rattle.std.specs.Prelude.{Some, None, Option}
 use Rattle.instructions.specs.declared.file.checks.Part.{Part}
 use Rattle.instructions.specs.declared.file.checks.Part.TheVariants.{Instruction, End, Misplaced}
 use Rattle.instructions.specs.Stages.{Stage, within, closed}

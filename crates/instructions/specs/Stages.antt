@@ -1,5 +1,5 @@
 -- The form of a file: which command may come when. What may not is out of place.
-use Rattle.std.specs.Prelude.{ℕ, ◌-◌, Bool, true, false, cond, ◌&&◌, ◌||◌, Some, None, Option, ◌==◌, nat_lt}
+use Rattle.std.specs.Prelude.{ℕ, ◌-◌, Bool, true, cond, ◌&&◌, ◌||◌, Some, None, Option, ◌==◌, nat_lt}
 use Rattle.fields.specs.Ascent.{ascending}
 use Rattle.rows.specs.Kinds.{rank_of}
 use Rattle.rows.specs.Rows.{kind_of_row, start_of_row}

@@ -1,12 +1,12 @@
 -- What a walk over a file has still to come.
-use Rattle.std.specs.Prelude.{◌≡◌, ℕ, ◌<◌, List, [], ◌∷◌, length, Some, None, Option}
+use Rattle.std.specs.Prelude.{◌≡◌, ℕ, ◌<◌, List, ◌∷◌, length, Some, None, Option}
 use Rattle.rows.specs.declared.row.Row.{Row}
 use Rattle.commands.specs.declared.command.Command.{Command}
 use Rattle.instructions.specs.declared.walking.Instruction.{Instruction}
 use Rattle.instructions.specs.declared.walking.Instruction.TheVariants.{Change}
 use Rattle.instructions.specs.declared.walking.Instructions.{Instructions}
 use Rattle.instructions.specs.declared.walking.Records.{Records}
-use Rattle.instructions.specs.Files.{FileInstruction, change, commands_in, records_of, instructions_of, taken}
+use Rattle.instructions.specs.Files.{FileInstruction, change, commands_in, records_of, instructions_of}
 
 -- the first of some commands, with the bytes of the others behind it
 pub record Split (xs : List ℕ) (c : Command) (ys : List ℕ) : Type 0 where

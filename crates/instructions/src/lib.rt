@@ -4,6 +4,8 @@
 // Reading goes by three layers: one command (the crate `commands`; `reader` knows its place), one
 // instruction (`instruction`), the whole file (`file`). What a well-formed file says is then
 // walked again (`walking`).
+#![tactic(auto)]
+
 pub mod faults;
 pub mod file;
 mod instruction;

@@ -1,4 +1,4 @@
-use Rattle.std.proofs.Common.{◌≡◌, Some, sym, refl, ap, ◌∙◌}
+use Rattle.std.proofs.Common.{Some, sym, refl, ap, ◌∙◌}
 use Rattle.std.proofs.lemmas.Result.{err_from_is_err_and}
 use Rattle.instructions.specs.declared.faults.FileFault.{FileFault}
 use Rattle.instructions.specs.Stages.{opening, between, opened}
@@ -8,7 +8,7 @@ use Rattle.instructions.proofs.file.checks.read_opening.Goals as goal
 pub returns-in_err-command : goal.returns-in_err-command
 returns-in_err-command c =
     let q = err_from_is_err_and c.from_residual.result c.from_residual.ensures.1 in
-    let h = c.in-err-command.ensures in
+    let h = c.in_err-command.ensures in
     rw (q.1, q.2) (record { value = read_cause refl _ opening _ tt h.value; header = tt; bytes = h.bytes })
 
 pub returns-in-Some : goal.returns-in-Some

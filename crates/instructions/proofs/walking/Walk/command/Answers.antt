@@ -1,4 +1,4 @@
-use Rattle.std.proofs.Common.{◌≡◌, sym, refl, ap, ◌∙◌}
+use Rattle.std.proofs.Common.{sym}
 use Rattle.instructions.proofs.Walked.{split_at, stopped}
 use Rattle.instructions.proofs.walking.Walk.command.Goals as goal
 
