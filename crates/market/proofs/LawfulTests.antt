@@ -1,5 +1,5 @@
 -- The test for a lawful edition decides it, and a fault that is told is one.
-use Rattle.std.proofs.Common.{◌≡◌, ℕ, zero, suc, ◌-◌, ◌<◌, ◌≤◌, true, false, not, ◌&&◌, leb, ◌⊎◌, List, [], map, length, get_or, pos, is_some, IfSome, Some, None, Decides, Option, sym, refl, ap, ◌∙◌, subst, inl, inr, ⊎_elim, arith}
+use Rattle.std.proofs.Common.{◌≡◌, ℕ, zero, suc, ◌<◌, ◌≤◌, not, ◌&&◌, leb, ◌⊎◌, List, [], map, length, get_or, pos, is_some, IfSome, Some, None, Decides, Option, sym, refl, ap, ◌∙◌, subst, inl, inr, ⊎_elim, arith}
 use Rattle.std.specs.List.{slice_get, ContainsAt as Has, AllByRecursion as All}
 use Rattle.std.specs.Option.{option_map, option_or}
 use Rattle.std.proofs.ByRecursion.{All-get_or, All-map, All-weaker}
@@ -139,7 +139,7 @@ none_lawful lists e =
       configurations_ascend = configurations.1;
       few_regimes = All-weaker LawfulConfiguration _ (λ c l. l.few) lists.configurations configurations.0;
       regimes = All-weaker LawfulConfiguration _ (λ c l. l.each) lists.configurations configurations.0;
-      regimes_ascend_lem = All-weaker LawfulConfiguration _ (λ c l. l.ascend) lists.configurations configurations.0;
+      regimes_ascend = All-weaker LawfulConfiguration _ (λ c l. l.ascend) lists.configurations configurations.0;
       combinations = each _ (kept combination.ConfigurationRange);
       classes = each _ (kept combination.ClassRange);
       groups = each _ (kept combination.GroupRange);
@@ -192,7 +192,7 @@ configurations_keep lists l k d h (configuration.Id rule) b =
     b (subst (KeepsId rule (previous (ids_of cs) k)) (get_or-map (λ c. c.id) cs k d 0 h) own)
 configurations_keep lists l k d h configuration.RegimeCount b = b (All-get_or (λ c. Few (length c.regimes)) lists.configurations k d h l.few_regimes)
 configurations_keep lists l k d h (configuration.Regime rule i) b =
-    b.1 (numbers_keep (get_or lists.configurations k d).regimes i b.0 (All-get_or (λ c. All Id c.regimes) lists.configurations k d h l.regimes) (All-get_or (λ c. Ascending c.regimes) lists.configurations k d h l.regimes_ascend_lem) rule)
+    b.1 (numbers_keep (get_or lists.configurations k d).regimes i b.0 (All-get_or (λ c. All Id c.regimes) lists.configurations k d h l.regimes) (All-get_or (λ c. Ascending c.regimes) lists.configurations k d h l.regimes_ascend) rule)
 
 combinations_keep : (lists : Lists) → Lawful lists → (k : ℕ) (d : Combination) → k < length lists.combinations → (rule : CombinationRule) → KeepsCombination rule (ids_of lists.configurations) (previous lists.combinations k) (get_or lists.combinations k d)
 combinations_keep lists l k d h combination.ConfigurationRange = All-get_or (λ c. Id c.configuration) lists.combinations k d h l.combinations

@@ -1,5 +1,5 @@
 -- A list that a test parts in two, seen from one of its entries.
-use Rattle.std.proofs.Common.{◌≡◌, ℕ, ◌+◌, ◌-◌, ◌<◌, ◌≤◌, Bool, true, false, ltb, ◌⊎◌, List, [], ◌∷◌, map, length, get_or, take, drop, sym, ap, ◌∙◌, subst, ⊎_elim, not-suc-le-zero, add-zero, arith, length-drop}
+use Rattle.std.proofs.Common.{◌≡◌, ℕ, ◌+◌, ◌-◌, ◌<◌, ◌≤◌, Bool, true, false, ltb, List, [], ◌∷◌, map, length, get_or, take, drop, sym, ap, ◌∙◌, subst, ⊎_elim, not-suc-le-zero, add-zero, arith, length-drop}
 use Rattle.std.specs.List.{ContainsAt as Has, AllByRecursion as All}
 use Rattle.std.proofs.ByRecursion.{All-from_get_or, All-get_or}
 use Rattle.std.proofs.lemmas.List.{length-map, get_or-map, length-take-le, get_or-take, get_or-drop, get_or_default, drop_all}
@@ -17,20 +17,20 @@ get_d_from (x ∷ xs) k h = x
 
 module _ {X : Type 0} (test : X → Bool) (xs : List X) (parted : Parted test xs) (mid : ℕ) (x : X) (h : mid < length xs) (is : x ≡ get_or xs mid x) where
   -- an entry that passes has only such before it
-  pub front_passes : test x ≡ true → All (λ y. test y ≡ true) (take (mid + 1) xs)
+  pub front_passes : true ≡ test x → All (λ y. test y ≡ true) (take (mid + 1) xs)
   front_passes t =
       let n : length (take (mid + 1) xs) ≡ mid + 1 = length-take-le (mid + 1) xs (omega arith) in
-      let here : test (get_or xs mid x) ≡ true = ap test (sym is) ∙ t in
+      let here : test (get_or xs mid x) ≡ true = ap test (sym is) ∙ sym t in
       All-from_get_or (λ y. test y ≡ true) (take (mid + 1) xs) x
       (λ i l.
       ap test (get_or-take (mid + 1) xs i x (omega arith))
       ∙ ⊎_elim (λ e. parted i mid x e h here) (λ e. let s : i ≡ mid = omega arith in ap (λ k. test (get_or xs k x)) s ∙ here) (cases_lt i mid))
 
   -- an entry that fails has only such behind it
-  pub rest_fails : test x ≡ false → All (λ y. test y ≡ false) (drop mid xs)
+  pub rest_fails : false ≡ test x → All (λ y. test y ≡ false) (drop mid xs)
   rest_fails f =
       let n : length (drop mid xs) ≡ length xs - mid = length-drop mid xs in
-      let here : test (get_or xs mid x) ≡ false = ap test (sym is) ∙ f in
+      let here : test (get_or xs mid x) ≡ false = ap test (sym is) ∙ sym f in
       All-from_get_or (λ y. test y ≡ false) (drop mid xs) x
       (λ i l.
       ap test (get_or-drop mid xs i x)

@@ -5,7 +5,6 @@ use Rattle.std.specs.List.{ContainsAt as Has, AllByRecursion as All}
 use Rattle.std.proofs.lemmas.Bool.{leb-true, le-leb, not-true, not-false}
 use Rattle.std.proofs.lemmas.Bool.Decides.{Decides-and, Decides-or, Decides-by_or, Decides-ltb, Decides-eqb, not_from_Decides}
 use Rattle.market.specs.Lawful.{Precedes, key_of}
-use Rattle.market.specs.Orders.{first}
 use Rattle.market.specs.Rules.{KeepsId, KeepsCombination}
 use Rattle.market.specs.Tests.{keeps_id, id_rule, keeps_combination, field_rule, field_rules, combination_rule, combination_rules, precedes, is_listed, follows}
 use Rattle.market.specs.declared.edition.Combination.{Combination}

@@ -1,5 +1,5 @@
 -- Combinations that ascend: the one of a configuration, class and group, and those of a configuration.
-use Rattle.std.proofs.Common.{◌≡◌, ℕ, ◌+◌, ◌-◌, ◌<◌, ◌≤◌, Bool, true, false, ◌&&◌, eqb, ltb, leb, ◌⊎◌, List, [], ◌∷◌, ◌++◌, length, get_or, take, drop, Decides, filter, Option, sym, refl, ap, ◌∙◌, subst, ⊎_elim, add-zero, arith, length-drop}
+use Rattle.std.proofs.Common.{◌≡◌, ℕ, ◌+◌, ◌-◌, ◌<◌, ◌≤◌, Bool, true, false, ◌&&◌, eqb, ltb, leb, List, [], ◌∷◌, ◌++◌, length, get_or, take, drop, Decides, filter, Option, sym, refl, ap, ◌∙◌, subst, ⊎_elim, add-zero, arith, length-drop}
 use Rattle.std.specs.Option.{option_map}
 use Rattle.std.specs.List.{AllByRecursion as All}
 use Rattle.std.proofs.lemmas.List.Elements.{filter-append}
@@ -60,14 +60,14 @@ all_both : {X : Type 0} (P Q S : X → Type 0) → ((x : X) → P x → Q x → 
 all_both P Q S both [] p q = tt
 all_both P Q S both (x ∷ xs) p q = (both x p.0 q.0, all_both P Q S both xs p.1 q.1)
 
-module _ (cs : List Combination) (id a b : ℕ) (within_a : a ≤ length cs) (within_b : b ≤ length cs) (front-a : All (λ c. ltb c.configuration id ≡ true) (take a cs)) (rest-a : All (λ c. ltb c.configuration id ≡ false) (drop a cs)) (front-b : All (λ c. leb c.configuration id ≡ true) (take b cs)) (rest-b : All (λ c. leb c.configuration id ≡ false) (drop b cs)) where
+module _ (cs : List Combination) (id a b : ℕ) (within_a : a ≤ length cs) (within_b : b ≤ length cs) (front_a : All (λ c. ltb c.configuration id ≡ true) (take a cs)) (rest_a : All (λ c. ltb c.configuration id ≡ false) (drop a cs)) (front_b : All (λ c. leb c.configuration id ≡ true) (take b cs)) (rest_b : All (λ c. leb c.configuration id ≡ false) (drop b cs)) where
   crossed : b < a → ⊥
   crossed h =
       let d = get_d_from cs b (omega arith) in
       let m : length (take a cs) ≡ a = length-take-le a cs within_a in
       let n : length (drop b cs) ≡ length cs - b = length-drop b cs in
-      let s = ltb-true _ id (All-get_or (λ c. ltb c.configuration id ≡ true) (take a cs) b d (omega arith) front-a) in
-      let t = leb-false _ id (All-get_or (λ c. leb c.configuration id ≡ false) (drop b cs) 0 d (omega arith) rest-b) in
+      let s = ltb-true _ id (All-get_or (λ c. ltb c.configuration id ≡ true) (take a cs) b d (omega arith) front_a) in
+      let t = leb-false _ id (All-get_or (λ c. leb c.configuration id ≡ false) (drop b cs) 0 d (omega arith) rest_b) in
       let e : (get_or (take a cs) b d).configuration ≡ (get_or cs b d).configuration = ap (λ c. c.configuration) (get_or-take a cs b d h) in
       let f : (get_or (drop b cs) 0 d).configuration ≡ (get_or cs (b + 0) d).configuration = ap (λ c. c.configuration) (get_or-drop b cs 0 d) in
       let g : (get_or cs (b + 0) d).configuration ≡ (get_or cs b d).configuration = ap (λ k. (get_or cs k d).configuration) (add-zero b) in
@@ -84,10 +84,10 @@ module _ (cs : List Combination) (id a b : ℕ) (within_a : a ≤ length cs) (wi
       let mid = take (b - a) (drop a cs) in
       let behind : drop (b - a) (drop a cs) ≡ drop b cs = drop-drop (b - a) a cs ∙ ap (λ k. drop k cs) sum in
       let whole : take a cs ++ (mid ++ drop b cs) ≡ cs = ap (λ l. take a cs ++ (mid ++ l)) (sym behind) ∙ ap (λ l. take a cs ++ l) (take-append-drop (b - a) (drop a cs)) ∙ take-append-drop a cs in
-      let low : filter mine (take a cs) ≡ [] = kept_none mine (take a cs) (All-weaker (λ c. ltb c.configuration id ≡ true) (λ c. mine c ≡ false) (λ c t. ne_eqb _ _ (λ e. omega (arith, ltb-true _ id t))) (take a cs) front-a) in
-      let high : filter mine (drop b cs) ≡ [] = kept_none mine (drop b cs) (All-weaker (λ c. leb c.configuration id ≡ false) (λ c. mine c ≡ false) (λ c t. ne_eqb _ _ (λ e. omega (arith, leb-false _ id t))) (drop b cs) rest-b) in
-      let upto : All (λ c. leb c.configuration id ≡ true) mid = subst (All (λ c. leb c.configuration id ≡ true)) (sym (between_is cs a b)) (All-drop (λ c. leb c.configuration id ≡ true) a (take b cs) front-b) in
-      let from : All (λ c. ltb c.configuration id ≡ false) mid = All-take (λ c. ltb c.configuration id ≡ false) (b - a) (drop a cs) rest-a in
+      let low : filter mine (take a cs) ≡ [] = kept_none mine (take a cs) (All-weaker (λ c. ltb c.configuration id ≡ true) (λ c. mine c ≡ false) (λ c t. ne_eqb _ _ (λ e. omega (arith, ltb-true _ id t))) (take a cs) front_a) in
+      let high : filter mine (drop b cs) ≡ [] = kept_none mine (drop b cs) (All-weaker (λ c. leb c.configuration id ≡ false) (λ c. mine c ≡ false) (λ c t. ne_eqb _ _ (λ e. omega (arith, leb-false _ id t))) (drop b cs) rest_b) in
+      let upto : All (λ c. leb c.configuration id ≡ true) mid = subst (All (λ c. leb c.configuration id ≡ true)) (sym (between_is cs a b)) (All-drop (λ c. leb c.configuration id ≡ true) a (take b cs) front_b) in
+      let from : All (λ c. ltb c.configuration id ≡ false) mid = All-take (λ c. ltb c.configuration id ≡ false) (b - a) (drop a cs) rest_a in
       let own : filter mine mid ≡ mid = kept_whole mine mid (all_both (λ c. leb c.configuration id ≡ true) (λ c. ltb c.configuration id ≡ false) (λ c. mine c ≡ true) (λ c p q. eq-eqb _ _ (omega (arith, leb-true _ id p, ltb-false _ id q))) mid upto from) in
       sym
       (ap (filter mine) (sym whole) ∙ filter-append mine (take a cs) (mid ++ drop b cs) ∙ ap (λ l. l ++ filter mine (mid ++ drop b cs)) low

@@ -31,7 +31,7 @@ pub record Lawful (lists : Lists) : Type 0 where
   pub configurations_ascend : Ascending (ids_of lists.configurations)
   pub few_regimes : All (λ c. Few (length c.regimes)) lists.configurations
   pub regimes : All (λ c. All Id c.regimes) lists.configurations
-  pub regimes_ascend_lem : All (λ c. Ascending c.regimes) lists.configurations
+  pub regimes_ascend : All (λ c. Ascending c.regimes) lists.configurations
   pub combinations : All (λ c. Id c.configuration) lists.combinations
   pub classes : All (λ c. Class c.class) lists.combinations
   pub groups : All (λ c. Group c.group) lists.combinations

@@ -1,4 +1,6 @@
 // An edition of the market's lists: which suppliers, settlement configurations and combinations there are.
+#![tactic(auto)]
+
 pub mod checked;
 mod combinations;
 pub mod edition;

@@ -41,10 +41,10 @@ pub(crate) trait Sought<X> {
 
 // How many entries stand before what is sought.
 pub(crate) fn place_of<X: Copy, S: Sought<X>>(entries: &[X], sought: &S) -> usize
-    requires { Parted (before sought.now) entries.now }
+    requires { Parted (S.before sought.now) entries.now }
     ensures within { result ≤ length entries.now }
-    ensures front { All (λ x. before sought.now x ≡ true) (take result entries.now) }
-    ensures rest { All (λ x. before sought.now x ≡ false) (drop result entries.now) }
+    ensures front { All (λ x. S.before sought.now x ≡ true) (take result entries.now) }
+    ensures rest { All (λ x. S.before sought.now x ≡ false) (drop result entries.now) }
 {
     let mut low = 0;
     let mut high = entries.len();
@@ -67,7 +67,7 @@ struct ById {
 }
 
 impl<X: Identified> Sought<X> for ById {
-    ghost before = { λ sought x. nat_lt (X.Identified.id_of x) sought.id };
+    ghost before = { λ sought x. nat_lt (X.id_of x) sought.id };
 
     fn is_behind(&self, entry: &X) -> bool {
         entry.id() < self.id
@@ -76,9 +76,9 @@ impl<X: Identified> Sought<X> for ById {
 
 // The place of the entry that has this id.
 pub(crate) fn id_place<X: Identified + Copy>(entries: &[X], id: u16) -> Option<usize>
-    requires { Ascending (map id_of entries.now) }
+    requires { Ascending (map X.id_of entries.now) }
     ensures within { IfSome result (λ place. place < length entries.now) }
-    ensures placed { Placed id (map id_of entries.now) result }
+    ensures placed { Placed id (map X.id_of entries.now) result }
 {
     let place = place_of(entries, &ById { id });
     if place < entries.len() && entries[place].id() == id {

@@ -11,14 +11,14 @@ place_of-place-requires g c = number_parted g.X.Identified.id_of c.args.entries.
 pub returns-then-id : goal.returns-then-id
 returns-then-id g c =
     let len = length-map c.args.entries.now g.X.Identified.id_of in
-    record { within = c.if-place-entries.true; placed = (omega arith, get_or-map g.X.Identified.id_of c.args.entries.now c.place-of-place.result c.index-entries-place.result 0 c.if-place-entries.true ∙ ap g.X.Identified.id_of (sym c.index-entries-place.is) ∙ sym c.id.ensures ∙ c.if-id.true) }
+    record { within = c.if-place-entries.true; placed = (omega arith, get_or-map g.X.Identified.id_of c.args.entries.now c.place_of-place.result c.index-entries-place.result 0 c.if-place-entries.true ∙ ap g.X.Identified.id_of (sym c.index-entries-place.is) ∙ sym c.id.ensures ∙ c.if-id.true) }
 
 pub returns-else-place-entries : goal.returns-else-place-entries
 returns-else-place-entries g c =
-    let found = c.place-of-place.ensures in
+    let found = c.place_of-place.ensures in
     let id_of = g.X.Identified.id_of in
     let xs = c.args.entries.now in
-    let place = c.place-of-place.result in
+    let place = c.place_of-place.result in
     let absent : Has (map id_of xs) c.args.id → ⊥ =
     elim c.else-place-entries.branch [
       | else-place-entries-via-then-place-entries+else-id w ↦ number_absent id_of xs c.requires c.args.id place found.front (number_over id_of xs c.requires c.args.id place w.index-entries-place.result found.rest w.if-place-entries.true w.index-entries-place.is (λ e. w.if-id.false (w.id.ensures ∙ e))) found.within

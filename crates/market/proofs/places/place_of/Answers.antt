@@ -1,4 +1,4 @@
-use Rattle.std.proofs.Common.{◌≡◌, ℕ, ◌+◌, ◌-◌, ◌/◌, false, length, drop, sym, subst, arith}
+use Rattle.std.proofs.Common.{◌≡◌, ℕ, ◌+◌, ◌-◌, ◌/◌, false, length, drop, subst, arith}
 use Rattle.std.specs.List.{AllByRecursion as All}
 use Rattle.market.proofs.Parts.{front_passes, rest_fails, all_past}
 use Rattle.market.proofs.places.place_of.Goals as goal
@@ -9,12 +9,12 @@ loop-low-init g c = (omega arith, omega arith, tt, all_past _ (length c.args.ent
 pub loop-low-preserved-then-is_behind : goal.loop-low-preserved-then-is_behind
 loop-low-preserved-then-is_behind g c =
     let mid = c.loop-low.low + (c.loop-low.high - c.loop-low.low) / 2 in
-    (omega arith, c.loop-low.invariant.1, front_passes _ c.args.entries.now c.requires mid c.index-entries-mid.result (omega arith) c.index-entries-mid.is (sym c.if-is-behind.ensures), c.loop-low.invariant.3)
+    (omega arith, c.loop-low.invariant.1, front_passes _ c.args.entries.now c.requires mid c.index-entries-mid.result (omega arith) c.index-entries-mid.is c.if-is_behind.ensures, c.loop-low.invariant.3)
 
 pub loop-low-preserved : goal.loop-low-preserved
 loop-low-preserved g c =
     let mid = c.loop-low.low + (c.loop-low.high - c.loop-low.low) / 2 in
-    (omega arith, omega arith, c.loop-low.invariant.2, rest_fails _ c.args.entries.now c.requires mid c.index-entries-mid.result (omega arith) c.index-entries-mid.is (sym c.if-is-behind.ensures))
+    (omega arith, omega arith, c.loop-low.invariant.2, rest_fails _ c.args.entries.now c.requires mid c.index-entries-mid.result (omega arith) c.index-entries-mid.is c.if-is_behind.ensures)
 
 pub returns : goal.returns
 returns g c =

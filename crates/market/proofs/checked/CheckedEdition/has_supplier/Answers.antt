@@ -10,8 +10,8 @@ use Rattle.market.proofs.checked.CheckedEdition.has_supplier.Goals as goal
 pub returns-then-not-self : goal.returns-then-not-self
 returns-then-not-self c = (λ e. absurd (false≢true e), λ h. absurd (unsound c.args.self.now c.if-not-self.true h.0))
 
-pub id-place-requires : goal.id-place-requires
-id-place-requires c = subst Ascending (sym (map-id c.args.self.now.edition.suppliers.now)) (sound c.args.self.now c.if-not-self.false).suppliers_ascend
+pub id_place-requires : goal.id_place-requires
+id_place-requires c = subst Ascending (sym (map-id c.args.self.now.edition.suppliers.now)) (sound c.args.self.now c.if-not-self.false).suppliers_ascend
 
 pub returns-in-Some : goal.returns-in-Some
 returns-in-Some c =

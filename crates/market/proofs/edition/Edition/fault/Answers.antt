@@ -14,23 +14,23 @@ returns-in-Some c =
 pub returns-in-Some-configurations_broken : goal.returns-in-Some-configurations_broken
 returns-in-Some-configurations_broken c =
     let lists = lists_of c.args.self.now in
-    let e : Some (Configuration c.in-Some-configurations-broken.rule c.in-Some-configurations-broken.place) ≡ first_fault lists =
-    sym (fault_configuration lists (sym c.in_default.ensures) _ _ (sym c.in-Some-configurations-broken.ensures)) in
+    let e : Some (Configuration c.in-Some-configurations_broken.rule c.in-Some-configurations_broken.place) ≡ first_fault lists =
+    sym (fault_configuration lists (sym c.in_default.ensures) _ _ (sym c.in-Some-configurations_broken.ensures)) in
     record { value = e; lawful = fault_decides lists _ e; broken = fault_told lists _ e }
 
 pub combinations_broken-requires : goal.combinations_broken-requires
-combinations_broken-requires c = (configurations_clear (lists_of c.args.self.now).configurations (sym c.in-default-configurations-broken.ensures)).1
+combinations_broken-requires c = (configurations_clear (lists_of c.args.self.now).configurations (sym c.in_default-configurations_broken.ensures)).1
 
 pub returns-in-Some-combinations_broken : goal.returns-in-Some-combinations_broken
 returns-in-Some-combinations_broken c =
     let lists = lists_of c.args.self.now in
-    let e : Some (Combination c.in-Some-combinations-broken.rule c.in-Some-combinations-broken.place) ≡ first_fault lists =
-    sym (fault_combination lists (sym c.in_default.ensures) (sym c.in-default-configurations-broken.ensures) _ (sym c.in-Some-combinations-broken.ensures)) in
+    let e : Some (Combination c.in-Some-combinations_broken.rule c.in-Some-combinations_broken.place) ≡ first_fault lists =
+    sym (fault_combination lists (sym c.in_default.ensures) (sym c.in_default-configurations_broken.ensures) _ (sym c.in-Some-combinations_broken.ensures)) in
     record { value = e; lawful = fault_decides lists _ e; broken = fault_told lists _ e }
 
 pub returns-in-None : goal.returns-in-None
 returns-in-None c =
     let lists = lists_of c.args.self.now in
     let e : None ≡ first_fault lists =
-    sym (fault_combination lists (sym c.in_default.ensures) (sym c.in-default-configurations-broken.ensures) None (sym c.in-None.ensures)) in
+    sym (fault_combination lists (sym c.in_default.ensures) (sym c.in_default-configurations_broken.ensures) None (sym c.in-None.ensures)) in
     record { value = e; lawful = fault_decides lists _ e; broken = fault_told lists _ e }

@@ -1,4 +1,4 @@
-use Rattle.std.proofs.Common.{arith, rules}
+use Rattle.std.proofs.Common.{arith}
 use Rattle.std.proofs.lemmas.Bool.Decides.{Decides-at}
 use Rattle.market.specs.Lists.{lists_of}
 use Rattle.market.proofs.LawfulTests.{lawful_is, lawful_decides}
