@@ -6,6 +6,7 @@ mod words;
 use inspecting::inspect;
 use sample::work_through;
 use std::alloc::AllocError;
+use std::process::ExitCode;
 use std::{env, fs, io};
 
 const USAGE: &str = "usage:
@@ -72,7 +73,15 @@ fn run(rt: &HostRuntime, words: &[String]) -> Result<(), Failure> {
     }
 }
 
-fn main(rt: HostRuntime) -> Result<(), Failure> {
-    let words: Vec<String> = env::args(&rt)?.skip(1).collect(rt.alloc())?;
-    run(&rt, &words)
+fn run_arguments(rt: &HostRuntime) -> Result<(), Failure> {
+    let words: Vec<String> = env::args(rt)?.skip(1).collect(rt.alloc())?;
+    run(rt, &words)
+}
+
+// A failure has said what it has to say, so only the status tells of it here.
+fn main(rt: HostRuntime) -> ExitCode {
+    match run_arguments(&rt) {
+        Ok(()) => ExitCode::SUCCESS,
+        Err(_failure) => ExitCode::FAILURE,
+    }
 }
