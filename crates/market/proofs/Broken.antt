@@ -1,6 +1,6 @@
 -- The first entry of a list that breaks a rule, and what it means that none does.
 use Rattle.std.proofs.Common.{◌≡◌, ℕ, zero, suc, ◌+◌, ◌<◌, ◌≤◌, Bool, true, false, cond, List, [], ◌∷◌, ◌++◌, map, length, get_or, drop, Some, None, Option, sym, refl, ap, ◌∙◌, subst, ⊎_elim, le_of_suc-le-suc, not-suc-le-zero, add-zero, add-one, arith}
-use Rattle.std.specs.List.{slice_get, AllByRecursion as All}
+use Rattle.std.specs.List.{slice_get, AllByRecursion}
 use Rattle.std.specs.Option.{option_or}
 use Rattle.std.proofs.lemmas.List.{drop_more, drop_all}
 use Rattle.std.proofs.lemmas.Bool.{cases_Bool, cond-true, cond-false}
@@ -18,7 +18,7 @@ module _ {X : Type 0} (test : X → Bool) where
       (λ f. first_passes ys x (sym (cond-false (test y) (Some y) (first test ys) f) ∙ e))
       (cases_Bool (test y))
 
-  pub first_none : (xs : List X) → first test xs ≡ None → All (λ x. test x ≡ false) xs
+  pub first_none : (xs : List X) → first test xs ≡ None → AllByRecursion (λ x. test x ≡ false) xs
   first_none [] e = tt
   first_none (y ∷ ys) e =
       ⊎_elim (λ t. absurd (none_some y (sym e ∙ cond-true (test y) (Some y) (first test ys) t)))
@@ -44,7 +44,7 @@ module _ {X K R : Type 0} (key : X → K) (rule : Option K → X → Option R) w
   clear before place [] e = tt
   clear before place (x ∷ xs) e = let p = none_told (rule before x) place _ e in (p.0, clear (Some (key x)) (suc place) xs p.1)
 
-  pub clear_all : (P : X → Type 0) → ((before : Option K) (x : X) → rule before x ≡ None → P x) → (before : Option K) (xs : List X) → Clear before xs → All P xs
+  pub clear_all : (P : X → Type 0) → ((before : Option K) (x : X) → rule before x ≡ None → P x) → (before : Option K) (xs : List X) → Clear before xs → AllByRecursion P xs
   clear_all P each before [] h = tt
   clear_all P each before (x ∷ xs) h = (each before x h.0, clear_all P each (Some (key x)) xs h.1)
 

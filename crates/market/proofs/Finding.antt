@@ -1,7 +1,7 @@
 -- What a plain search finds in a list that is in an order.
 use Rattle.std.proofs.Common.{◌≡◌, ℕ, zero, suc, ◌+◌, ◌-◌, ◌<◌, ◌≤◌, Bool, true, false, cond, ◌&&◌, eqb, List, [], ◌∷◌, map, length, get_or, take, drop, Some, None, Option, sym, refl, ap, ◌∙◌, subst, ⊎_elim, le_of_suc-le-suc, not-suc-le-zero, arith, length-drop}
 use Rattle.std.specs.Option.{option_map, option_or}
-use Rattle.std.specs.List.{ContainsAt as Has, AllByRecursion as All}
+use Rattle.std.specs.List.{ContainsAt as Has, AllByRecursion}
 use Rattle.std.proofs.ByRecursion.{All-from_get_or, All-weaker}
 use Rattle.std.proofs.lemmas.List.{length-map, get_or-map, get_or-drop, drop_more, drop_all, take-append-drop}
 use Rattle.std.proofs.lemmas.Bool.{cases_Bool, cond-true, cond-false, ne_eqb, eq-eqb, and_left}
@@ -13,7 +13,7 @@ use Rattle.market.proofs.Broken.{first_append}
 use Rattle.market.proofs.Listing.{has_at, ids_lent}
 
 module _ {X : Type 0} (test : X → Bool) where
-  pub first_fails : (xs : List X) → All (λ x. test x ≡ false) xs → first test xs ≡ None
+  pub first_fails : (xs : List X) → AllByRecursion (λ x. test x ≡ false) xs → first test xs ≡ None
   first_fails [] h = refl
   first_fails (x ∷ xs) h = cond-false _ _ _ h.0 ∙ first_fails xs h.1
 
@@ -56,7 +56,7 @@ module _ (cs : List Configuration) (id : ℕ) where
       ap (option_map (λ c. c.regimes)) (configuration_absent (map listed cs) id (λ has. none (subst (λ (ns : List ℕ). Has ns id) (ids_lent cs) has)))
 
 -- a search that has found the place: the entries before it stand before what is sought, the others do not
-module _ {X : Type 0} (R : X → X → Type 0) (xs : List X) (ordered : Ordered R xs) (before test : X → Bool) (apart : (x : X) → before x ≡ true → test x ≡ false) (later : (x y : X) → R x y → before x ≡ false → test y ≡ false) (n : ℕ) (front : All (λ x. before x ≡ true) (take n xs)) (rest : All (λ x. before x ≡ false) (drop n xs)) where
+module _ {X : Type 0} (R : X → X → Type 0) (xs : List X) (ordered : Ordered R xs) (before test : X → Bool) (apart : (x : X) → before x ≡ true → test x ≡ false) (later : (x y : X) → R x y → before x ≡ false → test y ≡ false) (n : ℕ) (front : AllByRecursion (λ x. before x ≡ true) (take n xs)) (rest : AllByRecursion (λ x. before x ≡ false) (drop n xs)) where
   from_place : first test xs ≡ first test (drop n xs)
   from_place =
       ap (first test) (sym (take-append-drop n xs)) ∙ first_append test (take n xs) (drop n xs)
@@ -68,8 +68,8 @@ module _ {X : Type 0} (R : X → X → Type 0) (xs : List X) (ordered : Ordered 
   pub found_none : (d : X) → n < length xs → test (get_or xs n d) ≡ false → first test xs ≡ None
   found_none d h f =
       let len : length (drop (n + 1) xs) ≡ length xs - (n + 1) = length-drop (n + 1) xs in
-      let here : before (get_or xs n d) ≡ false = (subst (All (λ x. before x ≡ false)) (drop_more xs n d h) rest).0 in
-      let behind : All (λ x. test x ≡ false) (drop (n + 1) xs) =
+      let here : before (get_or xs n d) ≡ false = (subst (AllByRecursion (λ x. before x ≡ false)) (drop_more xs n d h) rest).0 in
+      let behind : AllByRecursion (λ x. test x ≡ false) (drop (n + 1) xs) =
       All-from_get_or (λ x. test x ≡ false) (drop (n + 1) xs) d
       (λ i l. ap test (get_or-drop (n + 1) xs i d) ∙ later _ _ (ordered n (n + 1 + i) d (omega arith) (omega arith)) here) in
       from_place ∙ ap (first test) (drop_more xs n d h) ∙ cond-false _ _ _ f ∙ first_fails test (drop (n + 1) xs) behind
@@ -90,7 +90,7 @@ module _ {X : Type 0} (R : X → X → Type 0) (test also : X → Bool) (alone :
       let both : X → Bool = λ y. test y && also y in
       ⊎_elim
       (λ t.
-      let others : All (λ y. both y ≡ false) xs = All-from_get_or (λ y. both y ≡ false) xs x (λ i l. and_left _ _ (alone x (get_or xs i x) (ordered 0 (suc i) x (omega arith) (omega arith)) t)) in
+      let others : AllByRecursion (λ y. both y ≡ false) xs = All-from_get_or (λ y. both y ≡ false) xs x (λ i l. and_left _ _ (alone x (get_or xs i x) (ordered 0 (suc i) x (omega arith) (omega arith)) t)) in
       ap (λ b. cond (b && also x) (Some x) (first both xs)) t ∙ ap (cond (also x) (Some x)) (first_fails both xs others) ∙ sym (ap (narrowed also) (cond-true (test x) (Some x) (first test xs) t)))
       (λ f. ap (λ b. cond (b && also x) (Some x) (first both xs)) f ∙ first_both xs tail ∙ sym (ap (narrowed also) (cond-false (test x) (Some x) (first test xs) f)))
       (cases_Bool (test x))

@@ -1,6 +1,6 @@
 -- The test for a lawful edition decides it, and a fault that is told is one.
 use Rattle.std.proofs.Common.{◌≡◌, ℕ, zero, suc, ◌<◌, ◌≤◌, not, ◌&&◌, leb, ◌⊎◌, List, [], map, length, get_or, pos, is_some, IfSome, Some, None, Decides, Option, sym, refl, ap, ◌∙◌, subst, inl, inr, ⊎_elim, arith}
-use Rattle.std.specs.List.{slice_get, ContainsAt as Has, AllByRecursion as All}
+use Rattle.std.specs.List.{slice_get, ContainsAt as Has, AllByRecursion}
 use Rattle.std.specs.Option.{option_map, option_or}
 use Rattle.std.proofs.ByRecursion.{All-get_or, All-map, All-weaker}
 use Rattle.std.proofs.lemmas.List.{map-id, length-map, get_or-map}
@@ -29,7 +29,7 @@ use Rattle.market.proofs.Broken.{none_some, clear, clear_all, clear_ordered, bro
 use Rattle.market.proofs.RuleTests.{decides_leb, ids_kept, combinations_kept, id_broken, combination_broken}
 
 -- lists of ids
-pub ids_clear : (numbers : List ℕ) → ids_broken numbers ≡ None → All Id numbers × Ascending numbers
+pub ids_clear : (numbers : List ℕ) → ids_broken numbers ≡ None → AllByRecursion Id numbers × Ascending numbers
 ids_clear numbers e =
     let h = clear (λ n. n) id_rule None 0 numbers e in
     let ordered : Ordered (λ a b. a < b) (map (λ n. n) numbers) = clear_ordered (λ n. n) id_rule (λ a b. a < b) (λ a b c l m. omega arith) (λ b n f. ids_kept (Some b) n f ids.Order) None numbers h in
@@ -45,7 +45,7 @@ ids_told numbers rule k e =
 pub record LawfulConfiguration (c : Listed) : Type 0 where
   pub own : Id c.id
   pub few : Few (length c.regimes)
-  pub each : All Id c.regimes
+  pub each : AllByRecursion Id c.regimes
   pub ascend : Ascending c.regimes
 
 regimes_clear : (o : Option (IdRule × ℕ)) → regime_rule o ≡ None → o ≡ None
@@ -72,7 +72,7 @@ configuration_clear before c e =
     let r = ids_clear c.regimes q.1 in
     (p.0, record { own = ids_kept before c.id p.0 ids.Range; few = q.0; each = r.0; ascend = r.1 })
 
-pub configurations_clear : (cs : List Listed) → configurations_broken cs ≡ None → All LawfulConfiguration cs × Ascending (ids_of cs)
+pub configurations_clear : (cs : List Listed) → configurations_broken cs ≡ None → AllByRecursion LawfulConfiguration cs × Ascending (ids_of cs)
 configurations_clear cs e =
     let h = clear (λ c. c.id) configuration_rule None 0 cs e in
     let ordered : Ordered (λ a b. a < b) (ids_of cs) = clear_ordered (λ c. c.id) configuration_rule (λ a b. a < b) (λ a b c l m. omega arith) (λ b c f. ids_kept (Some b) c.id (configuration_clear (Some b) c f).0 ids.Order) None cs h in
@@ -129,7 +129,7 @@ none_lawful lists e =
     let cs = lists.combinations in
     let h = clear (λ c. c) (combination_rule numbers) None 0 cs (none_mapped _ _ q.1) in
     let kept : (rule : CombinationRule) (before : Option Combination) (c : Combination) → combination_rule numbers before c ≡ None → KeepsCombination rule numbers before c = λ rule before c f. combinations_kept numbers before c f rule in
-    let each : (P : Combination → Type 0) → ((before : Option Combination) (c : Combination) → combination_rule numbers before c ≡ None → P c) → All P cs = λ P f. clear_all (λ c. c) (combination_rule numbers) P f None cs h in
+    let each : (P : Combination → Type 0) → ((before : Option Combination) (c : Combination) → combination_rule numbers before c ≡ None → P c) → AllByRecursion P cs = λ P f. clear_all (λ c. c) (combination_rule numbers) P f None cs h in
     let Below : Combination → Combination → Type 0 = λ a b. Precedes (key_of a) (key_of b) in
     let ordered : Ordered Below (map (λ c. c) cs) = clear_ordered (λ c. c) (combination_rule numbers) Below (λ a b c p q. precedes_onward (key_of a) (key_of b) (key_of c) p q) (λ b c f. kept combination.Order (Some b) c f) None cs h in
     record {
@@ -177,7 +177,7 @@ some_broken lists f e =
     (supplier_told lists _ _ f refl e)
 
 -- an edition with a broken rule is not lawful
-numbers_keep : (numbers : List ℕ) (k : ℕ) → k < length numbers → All Id numbers → Ascending numbers → (rule : IdRule) → KeepsId rule (previous numbers k) (get_or numbers k 0)
+numbers_keep : (numbers : List ℕ) (k : ℕ) → k < length numbers → AllByRecursion Id numbers → Ascending numbers → (rule : IdRule) → KeepsId rule (previous numbers k) (get_or numbers k 0)
 numbers_keep numbers k h each up ids.Range = All-get_or Id numbers k 0 h each
 numbers_keep numbers zero h each up ids.Order = tt
 numbers_keep numbers (suc k) h each up ids.Order =
@@ -192,7 +192,7 @@ configurations_keep lists l k d h (configuration.Id rule) b =
     b (subst (KeepsId rule (previous (ids_of cs) k)) (get_or-map (λ c. c.id) cs k d 0 h) own)
 configurations_keep lists l k d h configuration.RegimeCount b = b (All-get_or (λ c. Few (length c.regimes)) lists.configurations k d h l.few_regimes)
 configurations_keep lists l k d h (configuration.Regime rule i) b =
-    b.1 (numbers_keep (get_or lists.configurations k d).regimes i b.0 (All-get_or (λ c. All Id c.regimes) lists.configurations k d h l.regimes) (All-get_or (λ c. Ascending c.regimes) lists.configurations k d h l.regimes_ascend) rule)
+    b.1 (numbers_keep (get_or lists.configurations k d).regimes i b.0 (All-get_or (λ c. AllByRecursion Id c.regimes) lists.configurations k d h l.regimes) (All-get_or (λ c. Ascending c.regimes) lists.configurations k d h l.regimes_ascend) rule)
 
 combinations_keep : (lists : Lists) → Lawful lists → (k : ℕ) (d : Combination) → k < length lists.combinations → (rule : CombinationRule) → KeepsCombination rule (ids_of lists.configurations) (previous lists.combinations k) (get_or lists.combinations k d)
 combinations_keep lists l k d h combination.ConfigurationRange = All-get_or (λ c. Id c.configuration) lists.combinations k d h l.combinations

@@ -1,14 +1,14 @@
 -- A list that a test parts in two, seen from one of its entries.
 use Rattle.std.proofs.Common.{◌≡◌, ℕ, ◌+◌, ◌-◌, ◌<◌, ◌≤◌, Bool, true, false, ltb, List, [], ◌∷◌, map, length, get_or, take, drop, sym, ap, ◌∙◌, subst, ⊎_elim, not-suc-le-zero, add-zero, arith, length-drop}
-use Rattle.std.specs.List.{ContainsAt as Has, AllByRecursion as All}
+use Rattle.std.specs.List.{ContainsAt as Has, AllByRecursion}
 use Rattle.std.proofs.ByRecursion.{All-from_get_or, All-get_or}
 use Rattle.std.proofs.lemmas.List.{length-map, get_or-map, length-take-le, get_or-take, get_or-drop, get_or_default, drop_all}
 use Rattle.std.proofs.lemmas.Bool.{cases_Bool, cases_order, cases_lt, both_ways, lt-ltb, ltb-true, ltb-false}
 use Rattle.fields.specs.Ascent.{Ascending}
 use Rattle.market.specs.Orders.{Parted}
 
-pub all_past : {X : Type 0} (P : X → Type 0) (n : ℕ) (xs : List X) → length xs ≤ n → All P (drop n xs)
-all_past P n xs h = subst (All P) (sym (drop_all n xs h)) tt
+pub all_past : {X : Type 0} (P : X → Type 0) (n : ℕ) (xs : List X) → length xs ≤ n → AllByRecursion P (drop n xs)
+all_past P n xs h = subst (AllByRecursion P) (sym (drop_all n xs h)) tt
 
 -- an entry, of a list that has one
 pub get_d_from : {X : Type 0} (xs : List X) (k : ℕ) → k < length xs → X
@@ -17,7 +17,7 @@ get_d_from (x ∷ xs) k h = x
 
 module _ {X : Type 0} (test : X → Bool) (xs : List X) (parted : Parted test xs) (mid : ℕ) (x : X) (h : mid < length xs) (is : x ≡ get_or xs mid x) where
   -- an entry that passes has only such before it
-  pub front_passes : true ≡ test x → All (λ y. test y ≡ true) (take (mid + 1) xs)
+  pub front_passes : true ≡ test x → AllByRecursion (λ y. test y ≡ true) (take (mid + 1) xs)
   front_passes t =
       let n : length (take (mid + 1) xs) ≡ mid + 1 = length-take-le (mid + 1) xs (omega arith) in
       let here : test (get_or xs mid x) ≡ true = ap test (sym is) ∙ sym t in
@@ -27,7 +27,7 @@ module _ {X : Type 0} (test : X → Bool) (xs : List X) (parted : Parted test xs
       ∙ ⊎_elim (λ e. parted i mid x e h here) (λ e. let s : i ≡ mid = omega arith in ap (λ k. test (get_or xs k x)) s ∙ here) (cases_lt i mid))
 
   -- an entry that fails has only such behind it
-  pub rest_fails : false ≡ test x → All (λ y. test y ≡ false) (drop mid xs)
+  pub rest_fails : false ≡ test x → AllByRecursion (λ y. test y ≡ false) (drop mid xs)
   rest_fails f =
       let n : length (drop mid xs) ≡ length xs - mid = length-drop mid xs in
       let here : test (get_or xs mid x) ≡ false = ap test (sym is) ∙ sym f in
@@ -56,7 +56,7 @@ module _ {X : Type 0} (number : X → ℕ) (xs : List X) (up : Ascending (map nu
       lt-ltb _ n (omega (arith, ltb-true (number (get_or xs j d)) n t))
 
   -- no entry has the number: those up to the place are below it, and the entry there, if any, is above it
-  pub number_absent : (n place : ℕ) → All (λ x. ltb (number x) n ≡ true) (take place xs) → ((d : X) → place < length xs → n < number (get_or xs place d)) → place ≤ length xs → Has (map number xs) n → ⊥
+  pub number_absent : (n place : ℕ) → AllByRecursion (λ x. ltb (number x) n ≡ true) (take place xs) → ((d : X) → place < length xs → n < number (get_or xs place d)) → place ≤ length xs → Has (map number xs) n → ⊥
   number_absent n place front over within has =
       let len = same_length in
       let k = has.0 in
@@ -78,7 +78,7 @@ module _ {X : Type 0} (number : X → ℕ) (xs : List X) (up : Ascending (map nu
       (cases_lt k place)
 
   -- the entry at the place is above the number, if it is another and none from there on is below
-  pub number_over : (n place : ℕ) (x : X) → All (λ y. ltb (number y) n ≡ false) (drop place xs) → place < length xs → x ≡ get_or xs place x → (number x ≡ n → ⊥) → (d : X) → place < length xs → n < number (get_or xs place d)
+  pub number_over : (n place : ℕ) (x : X) → AllByRecursion (λ y. ltb (number y) n ≡ false) (drop place xs) → place < length xs → x ≡ get_or xs place x → (number x ≡ n → ⊥) → (d : X) → place < length xs → n < number (get_or xs place d)
   number_over n place x rest h is ne d _ =
       let len : length (drop place xs) ≡ length xs - place = length-drop place xs in
       let t = All-get_or (λ y. ltb (number y) n ≡ false) (drop place xs) 0 d (omega arith) rest in

@@ -1,7 +1,7 @@
 -- Each test of a rule decides it.
 use Rattle.std.proofs.Common.{◌≡◌, ℕ, ◌≤◌, true, false, cond, not, eqb, leb, List, [], ◌∷◌, Some, None, Decides, Option, refl, ap, ◌∙◌}
 use Rattle.std.specs.Option.{option_or}
-use Rattle.std.specs.List.{ContainsAt as Has, AllByRecursion as All}
+use Rattle.std.specs.List.{ContainsAt as Has, AllByRecursion}
 use Rattle.std.proofs.lemmas.Bool.{leb-true, le-leb, not-true, not-false}
 use Rattle.std.proofs.lemmas.Bool.Decides.{Decides-and, Decides-or, Decides-by_or, Decides-ltb, Decides-eqb, not_from_Decides}
 use Rattle.market.specs.Lawful.{Precedes, key_of}
@@ -47,7 +47,7 @@ combination_decides combination.Order numbers (Some b) c = precedes_decides (key
 pub ids_kept : (before : Option ℕ) (id : ℕ) → id_rule before id ≡ None → (rule : IdRule) → KeepsId rule before id
 ids_kept before id e rule = (id_decides rule before id).0 (not-false _ (passes rule))
   where
-    all : All (λ r. not (keeps_id r before id) ≡ false) (ids.Range ∷ ids.Order ∷ [])
+    all : AllByRecursion (λ r. not (keeps_id r before id) ≡ false) (ids.Range ∷ ids.Order ∷ [])
     all = first_none (λ r. not (keeps_id r before id)) (ids.Range ∷ ids.Order ∷ []) e
 
     passes : (r : IdRule) → not (keeps_id r before id) ≡ false
@@ -58,7 +58,7 @@ pub combinations_kept : (numbers : List ℕ) (before : Option Combination) (c : 
 unfolding combination_rule
 combinations_kept numbers before c e rule = (combination_decides rule numbers before c).0 (not-false _ (passes rule))
   where
-    all : All (λ r. not (keeps_combination r numbers before c) ≡ false) combination_rules
+    all : AllByRecursion (λ r. not (keeps_combination r numbers before c) ≡ false) combination_rules
     all = first_none (λ r. not (keeps_combination r numbers before c)) combination_rules e
 
     passes : (r : CombinationRule) → not (keeps_combination r numbers before c) ≡ false

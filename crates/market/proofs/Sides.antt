@@ -1,7 +1,7 @@
 -- Combinations that ascend: the one of a configuration, class and group, and those of a configuration.
 use Rattle.std.proofs.Common.{◌≡◌, ℕ, ◌+◌, ◌-◌, ◌<◌, ◌≤◌, Bool, true, false, ◌&&◌, eqb, ltb, leb, List, [], ◌∷◌, ◌++◌, length, get_or, take, drop, Decides, filter, Option, sym, refl, ap, ◌∙◌, subst, ⊎_elim, add-zero, arith, length-drop}
 use Rattle.std.specs.Option.{option_map}
-use Rattle.std.specs.List.{AllByRecursion as All}
+use Rattle.std.specs.List.{AllByRecursion}
 use Rattle.std.proofs.lemmas.List.Elements.{filter-append}
 use Rattle.std.proofs.ByRecursion.{All-get_or, All-weaker, All-take, All-drop}
 use Rattle.std.proofs.lemmas.List.{append-nil, drop-drop, take-append-drop, get_or-take, get_or-drop, length-take-le}
@@ -48,19 +48,19 @@ pub default_is : (key : Key) (day : ℕ) (cs : List Combination) → Ascend cs �
 default_is key day cs up o e = ap (option_map (λ c. c.default)) (first_both _ (is_of key) (is_on day) (key_alone key) cs up ∙ ap (narrowed (is_on day)) (sym e))
 
 -- those of a configuration
-kept_none : {X : Type 0} (test : X → Bool) (xs : List X) → All (λ x. test x ≡ false) xs → filter test xs ≡ []
+kept_none : {X : Type 0} (test : X → Bool) (xs : List X) → AllByRecursion (λ x. test x ≡ false) xs → filter test xs ≡ []
 kept_none test [] h = refl
 kept_none test (x ∷ xs) h = cond-false _ _ _ h.0 ∙ kept_none test xs h.1
 
-kept_whole : {X : Type 0} (test : X → Bool) (xs : List X) → All (λ x. test x ≡ true) xs → filter test xs ≡ xs
+kept_whole : {X : Type 0} (test : X → Bool) (xs : List X) → AllByRecursion (λ x. test x ≡ true) xs → filter test xs ≡ xs
 kept_whole test [] h = refl
 kept_whole test (x ∷ xs) h = cond-true _ _ _ h.0 ∙ ap (λ l. x ∷ l) (kept_whole test xs h.1)
 
-all_both : {X : Type 0} (P Q S : X → Type 0) → ((x : X) → P x → Q x → S x) → (xs : List X) → All P xs → All Q xs → All S xs
+all_both : {X : Type 0} (P Q S : X → Type 0) → ((x : X) → P x → Q x → S x) → (xs : List X) → AllByRecursion P xs → AllByRecursion Q xs → AllByRecursion S xs
 all_both P Q S both [] p q = tt
 all_both P Q S both (x ∷ xs) p q = (both x p.0 q.0, all_both P Q S both xs p.1 q.1)
 
-module _ (cs : List Combination) (id a b : ℕ) (within_a : a ≤ length cs) (within_b : b ≤ length cs) (front_a : All (λ c. ltb c.configuration id ≡ true) (take a cs)) (rest_a : All (λ c. ltb c.configuration id ≡ false) (drop a cs)) (front_b : All (λ c. leb c.configuration id ≡ true) (take b cs)) (rest_b : All (λ c. leb c.configuration id ≡ false) (drop b cs)) where
+module _ (cs : List Combination) (id a b : ℕ) (within_a : a ≤ length cs) (within_b : b ≤ length cs) (front_a : AllByRecursion (λ c. ltb c.configuration id ≡ true) (take a cs)) (rest_a : AllByRecursion (λ c. ltb c.configuration id ≡ false) (drop a cs)) (front_b : AllByRecursion (λ c. leb c.configuration id ≡ true) (take b cs)) (rest_b : AllByRecursion (λ c. leb c.configuration id ≡ false) (drop b cs)) where
   crossed : b < a → ⊥
   crossed h =
       let d = get_d_from cs b (omega arith) in
@@ -86,8 +86,8 @@ module _ (cs : List Combination) (id a b : ℕ) (within_a : a ≤ length cs) (wi
       let whole : take a cs ++ (mid ++ drop b cs) ≡ cs = ap (λ l. take a cs ++ (mid ++ l)) (sym behind) ∙ ap (λ l. take a cs ++ l) (take-append-drop (b - a) (drop a cs)) ∙ take-append-drop a cs in
       let low : filter mine (take a cs) ≡ [] = kept_none mine (take a cs) (All-weaker (λ c. ltb c.configuration id ≡ true) (λ c. mine c ≡ false) (λ c t. ne_eqb _ _ (λ e. omega (arith, ltb-true _ id t))) (take a cs) front_a) in
       let high : filter mine (drop b cs) ≡ [] = kept_none mine (drop b cs) (All-weaker (λ c. leb c.configuration id ≡ false) (λ c. mine c ≡ false) (λ c t. ne_eqb _ _ (λ e. omega (arith, leb-false _ id t))) (drop b cs) rest_b) in
-      let upto : All (λ c. leb c.configuration id ≡ true) mid = subst (All (λ c. leb c.configuration id ≡ true)) (sym (between_is cs a b)) (All-drop (λ c. leb c.configuration id ≡ true) a (take b cs) front_b) in
-      let from : All (λ c. ltb c.configuration id ≡ false) mid = All-take (λ c. ltb c.configuration id ≡ false) (b - a) (drop a cs) rest_a in
+      let upto : AllByRecursion (λ c. leb c.configuration id ≡ true) mid = subst (AllByRecursion (λ c. leb c.configuration id ≡ true)) (sym (between_is cs a b)) (All-drop (λ c. leb c.configuration id ≡ true) a (take b cs) front_b) in
+      let from : AllByRecursion (λ c. ltb c.configuration id ≡ false) mid = All-take (λ c. ltb c.configuration id ≡ false) (b - a) (drop a cs) rest_a in
       let own : filter mine mid ≡ mid = kept_whole mine mid (all_both (λ c. leb c.configuration id ≡ true) (λ c. ltb c.configuration id ≡ false) (λ c. mine c ≡ true) (λ c p q. eq-eqb _ _ (omega (arith, leb-true _ id p, ltb-false _ id q))) mid upto from) in
       sym
       (ap (filter mine) (sym whole) ∙ filter-append mine (take a cs) (mid ++ drop b cs) ∙ ap (λ l. l ++ filter mine (mid ++ drop b cs)) low

@@ -1,6 +1,6 @@
 // Where entries stand in a list that ascends, found by halving: once for every list of an edition.
 ghost use Rattle.std.specs.Prelude.{◌≡◌, ℕ, ◌<◌, ◌≤◌, Bool, true, false, map, length, take, drop, IfSome, nat_lt};
-ghost use Rattle.std.specs.List.{AllByRecursion as All};
+ghost use Rattle.std.specs.List.{AllByRecursion};
 ghost use Rattle.fields.specs.Ascent.{Ascending};
 ghost use Rattle.market.specs.Orders.{Parted, Placed};
 
@@ -43,8 +43,8 @@ pub(crate) trait Sought<X> {
 pub(crate) fn place_of<X: Copy, S: Sought<X>>(entries: &[X], sought: &S) -> usize
     requires { Parted (S.before sought.now) entries.now }
     ensures within { result ≤ length entries.now }
-    ensures front { All (λ x. S.before sought.now x ≡ true) (take result entries.now) }
-    ensures rest { All (λ x. S.before sought.now x ≡ false) (drop result entries.now) }
+    ensures front { AllByRecursion (λ x. S.before sought.now x ≡ true) (take result entries.now) }
+    ensures rest { AllByRecursion (λ x. S.before sought.now x ≡ false) (drop result entries.now) }
 {
     let mut low = 0;
     let mut high = entries.len();

@@ -1,5 +1,5 @@
 use Rattle.std.proofs.Common.{◌≡◌, ℕ, ◌+◌, ◌-◌, ◌/◌, false, length, drop, subst, arith}
-use Rattle.std.specs.List.{AllByRecursion as All}
+use Rattle.std.specs.List.{AllByRecursion}
 use Rattle.market.proofs.Parts.{front_passes, rest_fails, all_past}
 use Rattle.market.proofs.places.place_of.Goals as goal
 
@@ -23,5 +23,5 @@ returns g c =
     record {
       within = omega arith;
       front = c.loop-low.invariant.2;
-      rest = subst (λ (n : ℕ). All (λ x. before x ≡ false) (drop n c.args.entries.now)) e c.loop-low.invariant.3;
+      rest = subst (λ (n : ℕ). AllByRecursion (λ x. before x ≡ false) (drop n c.args.entries.now)) e c.loop-low.invariant.3;
     }
