@@ -1,7 +1,7 @@
 -- The folder in a block is in form.
 use Rattle.std.specs.Prelude.{◌≡◌, ℕ, ◌≤◌, List, [], ◌∷◌, map, length, refl}
 use Rattle.std.proofs.Common.{arith}
-use Rattle.std.specs.List.{AllByRecursion as All}
+use Rattle.std.specs.List.{AllByRecursion}
 use Rattle.std.proofs.lemmas.List.{length-map, length-take}
 use Rattle.register.specs.Folders.{FolderInForm}
 use Rattle.fields.proofs.AscentTests.{ascending_decides}
@@ -20,14 +20,14 @@ use Rattle.blocks.specs.declared.block.Block.{Block}
 use Rattle.blocks.specs.declared.contents.Contents.{Contents}
 
 module _ {X : Type 0} (wrap : X → Row) (kind : Kind) (of-kind : (x : X) → kind_of_row (wrap x) ≡ kind) where
-  all_of_kind : (xs : List X) → All (λ r. kind_of_row r ≡ kind) (map wrap xs)
+  all_of_kind : (xs : List X) → AllByRecursion (λ r. kind_of_row r ≡ kind) (map wrap xs)
   all_of_kind [] = tt
   all_of_kind (x ∷ xs) = (of-kind x, all_of_kind xs)
 
   few_rows : {most : ℕ} (window : Window X most) → length (wrapped wrap window) ≤ most
   few_rows window = omega (arith, length-map (rows_of window) wrap, length-take window.count window.rows, window.within)
 
-kinds_in : (c : Contents) (kind : Kind) → All (λ r. kind_of_row r ≡ kind) (kind_rows c kind)
+kinds_in : (c : Contents) (kind : Kind) → AllByRecursion (λ r. kind_of_row r ≡ kind) (kind_rows c kind)
 kinds_in c Registration = all_of_kind row.Registration Registration (λ x. refl) (rows_of c.registrations)
 kinds_in c Appointment = all_of_kind row.Appointment Appointment (λ x. refl) (rows_of c.appointments)
 kinds_in c Collector = all_of_kind row.Collector Collector (λ x. refl) (rows_of c.collectors)

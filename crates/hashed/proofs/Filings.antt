@@ -1,6 +1,6 @@
 -- What a folder more makes of filed folders, and what is found among them.
 use Rattle.std.proofs.Common.{◌≡◌, ℕ, zero, suc, ◌<◌, ◌≤◌, Bool, true, false, cond, ◌||◌, ltb, List, [], ◌∷◌, length, get_or, take, Some, None, sym, refl, ap, ◌∙◌, subst, ⊎_elim, arith}
-use Rattle.std.specs.List.{AllByRecursion as All}
+use Rattle.std.specs.List.{AllByRecursion}
 use Rattle.std.proofs.lemmas.Bool.{cond-true, cond-false, cond_both, cases_Bool, or_parts, both_ways, lt-ltb}
 use Rattle.blocks.specs.Block.{empty_folder, with_rows}
 use Rattle.register.specs.Folders.{Pair, Rows, Folder, same, below, no_rows, holds, rows_of, changed, made, next_pair}
@@ -152,15 +152,15 @@ made_new k (f ∷ fs) h =
     ∙ sym (cond-false (same k f.pair) (empty_folder k ∷ fs) _ p.0)
 
 -- the first pair above another
-pub next_none : (k : Pair) (fs : List Folder) → All (λ q. below k q ≡ false) (pairs_of fs) → next_pair k fs ≡ None
+pub next_none : (k : Pair) (fs : List Folder) → AllByRecursion (λ q. below k q ≡ false) (pairs_of fs) → next_pair k fs ≡ None
 next_none k [] a = refl
 next_none k (f ∷ fs) a = cond-false _ _ _ a.0 ∙ next_none k fs a.1
 
-pub next_some : (k : Pair) (fs : List Folder) (at : ℕ) → at < length (pairs_of fs) → All (λ q. below k q ≡ false) (take at (pairs_of fs)) → below k (get_or (pairs_of fs) at (0, 0)) ≡ true → next_pair k fs ≡ Some (get_or (pairs_of fs) at (0, 0))
+pub next_some : (k : Pair) (fs : List Folder) (at : ℕ) → at < length (pairs_of fs) → AllByRecursion (λ q. below k q ≡ false) (take at (pairs_of fs)) → below k (get_or (pairs_of fs) at (0, 0)) ≡ true → next_pair k fs ≡ Some (get_or (pairs_of fs) at (0, 0))
 next_some k [] at l a h = absurd (omega arith)
 next_some k (f ∷ fs) zero l a h = cond-true _ _ _ h
 next_some k (f ∷ fs) (suc n) l a h = cond-false _ _ _ a.0 ∙ next_some k fs n (omega arith) a.1 h
 
-pub all_absent : (k : Pair) (fs : List Folder) → holds k fs ≡ false → All (λ q. same k q ≡ false) (pairs_of fs)
+pub all_absent : (k : Pair) (fs : List Folder) → holds k fs ≡ false → AllByRecursion (λ q. same k q ≡ false) (pairs_of fs)
 all_absent k [] h = tt
 all_absent k (f ∷ fs) h = let p = or_parts (same k f.pair) (holds k fs) h in (p.0, all_absent k fs p.1)

@@ -1,6 +1,6 @@
 -- One block more.
 use Rattle.std.proofs.Common.{◌≡◌, ℕ, zero, suc, ◌+◌, ◌-◌, ◌<◌, ◌≤◌, Bool, true, false, cond, eqb, ltb, List, [], ◌∷◌, ◌++◌, map, length, get_or, take, drop, set, sym, refl, ap, ◌∙◌, subst, ⊎_elim, add-one, arith, length-append, length-drop}
-use Rattle.std.specs.List.{AllByRecursion as All}
+use Rattle.std.specs.List.{AllByRecursion}
 use Rattle.std.proofs.ByRecursion.{All-weaker, All-take, All-drop, All-append, All-get_or}
 use Rattle.std.proofs.lemmas.List.{length-map, length-set, length-take-le, get_or-take, get_or-set_same, get_or-set_other, take-take, take_at, take-append-drop, take-map, drop-map, map-append}
 use Rattle.std.proofs.lemmas.Slice.{between_is}
@@ -20,11 +20,11 @@ last_same f g size h (suc n) alike =
     ap (λ p. cond (eqb (home_of p size) h) (suc n) (last f size h n)) (alike n (omega arith))
     ∙ ap (cond (eqb (home_of (g n) size) h) (suc n)) (last_same f g size h n (λ i l. alike i (omega arith)))
 
-pub map_same : (f g : ℕ → Pair) (n : ℕ) (xs : List ℕ) → ((i : ℕ) → i < n → f i ≡ g i) → All (λ b. b < n) xs → map f xs ≡ map g xs
+pub map_same : (f g : ℕ → Pair) (n : ℕ) (xs : List ℕ) → ((i : ℕ) → i < n → f i ≡ g i) → AllByRecursion (λ b. b < n) xs → map f xs ≡ map g xs
 map_same f g n [] alike a = refl
 map_same f g n (x ∷ xs) alike a = ap (λ y. y ∷ map f xs) (alike x a.0) ∙ ap (λ l. g x ∷ l) (map_same f g n xs alike a.1)
 
-strictly : (k : Pair) (ps : List Pair) → All (λ q. same k q ≡ false) ps → All (λ q. below k q ≡ false) ps → All (λ q. below q k ≡ true) ps
+strictly : (k : Pair) (ps : List Pair) → AllByRecursion (λ q. same k q ≡ false) ps → AllByRecursion (λ q. below k q ≡ false) ps → AllByRecursion (λ q. below q k ≡ true) ps
 strictly k [] a b = tt
 strictly k (p ∷ ps) a b = (else_above k p a.0 b.0, strictly k ps a.1 b.1)
 
@@ -42,7 +42,7 @@ pairs_filed f (g ∷ gs) = by_tests (pairs_filed f gs) (same f.pair g.pair) (bel
     by_tests rest false true = refl
     by_tests rest false false = ap (λ l. g.pair ∷ l) rest
 
-slot_at : (k : Pair) (xs ys : List Pair) → All (λ q. below q k ≡ true) xs → All (λ q. below k q ≡ true) ys → slot k (xs ++ ys) ≡ xs ++ k ∷ ys
+slot_at : (k : Pair) (xs ys : List Pair) → AllByRecursion (λ q. below q k ≡ true) xs → AllByRecursion (λ q. below k q ≡ true) ys → slot k (xs ++ ys) ≡ xs ++ k ∷ ys
 slot_at k [] [] a b = refl
 slot_at k [] (y ∷ ys) a b = cond-false _ _ _ (below_not_same k y b.0) ∙ cond-true _ _ _ b.0
 slot_at k (x ∷ xs) ys a b =
@@ -120,11 +120,11 @@ module _ (heads : List ℕ) (fs : List Folder) (links order : List ℕ) (n place
         }
 
   -- the order
-  module _ (at : ℕ) (absent : seek (pair_at fs) x.pair n ≡ 0) (place : at ≤ n) (before : All (λ q. below x.pair q ≡ false) (take at (keys fs order n))) (behind : All (λ q. below x.pair q ≡ true) (drop at (keys fs order n))) (order' : List ℕ) (is : order' ≡ take at order ++ (n ∷ take (n - at) (drop at order)) ++ drop (n + 1) order) (as_long : length order' ≡ length order) where
+  module _ (at : ℕ) (absent : seek (pair_at fs) x.pair n ≡ 0) (place : at ≤ n) (before : AllByRecursion (λ q. below x.pair q ≡ false) (take at (keys fs order n))) (behind : AllByRecursion (λ q. below x.pair q ≡ true) (drop at (keys fs order n))) (order' : List ℕ) (is : order' ≡ take at order ++ (n ∷ take (n - at) (drop at order)) ++ drop (n + 1) order) (as_long : length order' ≡ length order) where
     not_held : holds x.pair (held_in fs n) ≡ false
     not_held = holds_gathered (folder_at fs) x.pair n ∙ ap (ltb 0) absent
 
-    all_in : All (λ b. b < n) (take n order)
+    all_in : AllByRecursion (λ b. b < n) (take n order)
     all_in = inside_all fs order n (omega (arith, sound.listed)) sound.ordered
 
     os_length : length (take n order) ≡ n
@@ -140,10 +140,10 @@ module _ (heads : List ℕ) (fs : List Folder) (links order : List ℕ) (n place
         ∙ ap (λ l. take at order ++ n ∷ l) m
         ∙ ap (λ l. l ++ n ∷ drop at (take n order)) (sym (take-take at n order place))
 
-    under : All (λ q. below q x.pair ≡ true) (take at (keys fs order n))
+    under : AllByRecursion (λ q. below q x.pair ≡ true) (take at (keys fs order n))
     under =
         strictly x.pair (take at (keys fs order n))
-        (All-take (λ q. same x.pair q ≡ false) at (keys fs order n) (subst (All (λ q. same x.pair q ≡ false)) (sym sound.ordered.keyed) (all_absent x.pair (held_in fs n) not_held)))
+        (All-take (λ q. same x.pair q ≡ false) at (keys fs order n) (subst (AllByRecursion (λ q. same x.pair q ≡ false)) (sym sound.ordered.keyed) (all_absent x.pair (held_in fs n) not_held)))
         before
 
     keyed : map (pair_at (set fs n x)) (take (n + 1) order') ≡ pairs_of (held_in (set fs n x) (n + 1))
@@ -164,11 +164,11 @@ module _ (heads : List ℕ) (fs : List Folder) (links order : List ℕ) (n place
 
     inside : (i : ℕ) → i < n + 1 → get_or order' i 0 < n + 1
     inside i l =
-        let a : All (λ b. b < n + 1) (take n order) = All-weaker (λ b. b < n) (λ b. b < n + 1) (λ b l. omega arith) (take n order) all_in in
+        let a : AllByRecursion (λ b. b < n + 1) (take n order) = All-weaker (λ b. b < n) (λ b. b < n + 1) (λ b l. omega arith) (take n order) all_in in
         let s : length (take (n + 1) order') ≡ n + 1 = length-take-le (n + 1) order' (omega (arith, sound.listed)) in
         subst (λ (b : ℕ). b < n + 1) (get_or-take (n + 1) order' i 0 l)
         (All-get_or (λ b. b < n + 1) (take (n + 1) order') i 0 (omega arith)
-        (subst (All (λ b. b < n + 1)) (sym front)
+        (subst (AllByRecursion (λ b. b < n + 1)) (sym front)
         (All-append (λ b. b < n + 1) (take at (take n order)) (n ∷ drop at (take n order)) (All-take (λ b. b < n + 1) at (take n order) a) (omega arith, All-drop (λ b. b < n + 1) at (take n order) a))))
 
     pub ordered_more : Ordered (set fs n x) order' (n + 1)

@@ -1,6 +1,6 @@
 -- The lent memory with a new block, of an empty folder.
 use Rattle.std.proofs.Common.{◌≡◌, ℕ, ◌+◌, ◌-◌, ◌<◌, ◌≤◌, true, false, ltb, List, ◌∷◌, ◌++◌, length, get_or, take, drop, set, sym, ap, ◌∙◌, subst, arith}
-use Rattle.std.specs.List.{AllByRecursion as All}
+use Rattle.std.specs.List.{AllByRecursion}
 use Rattle.std.proofs.lemmas.List.{length-map, length-set, map-set}
 use Rattle.blocks.specs.Block.{folder_of, empty_folder}
 use Rattle.blocks.specs.declared.block.Block.{Block}
@@ -23,7 +23,7 @@ module _ (heads : List ℕ) (blocks : List Block) (order : List ℕ) (n places :
       ∙ held_more heads (folders_of blocks) (links_of blocks) order n places sound (empty_folder k) free
       ∙ sym (made_new k (held_in (folders_of blocks) n) (holds_gathered (folder_at (folders_of blocks)) k n ∙ ap (ltb 0) absent))
 
-  module _ (h : ℕ) (own : h ≡ home_of k (length heads)) (inside : h < length heads) (link : b.link ≡ get_or heads h 0) (at : ℕ) (place : at ≤ n) (before : All (λ q. below k q ≡ false) (take at (keys (folders_of blocks) order n))) (behind : All (λ q. below k q ≡ true) (drop at (keys (folders_of blocks) order n))) (order' : List ℕ) (is : order' ≡ take at order ++ (n ∷ take (n - at) (drop at order)) ++ drop (n + 1) order) (as_long : length order' ≡ length order) where
+  module _ (h : ℕ) (own : h ≡ home_of k (length heads)) (inside : h < length heads) (link : b.link ≡ get_or heads h 0) (at : ℕ) (place : at ≤ n) (before : AllByRecursion (λ q. below k q ≡ false) (take at (keys (folders_of blocks) order n))) (behind : AllByRecursion (λ q. below k q ≡ true) (drop at (keys (folders_of blocks) order n))) (order' : List ℕ) (is : order' ≡ take at order ++ (n ∷ take (n - at) (drop at order)) ++ drop (n + 1) order) (as_long : length order' ≡ length order) where
     grown : Sound (set heads h (n + 1)) (set (folders_of blocks) n (empty_folder k)) (set (links_of blocks) n b.link) order' (n + 1) places
     grown = record {
       used = omega arith;

@@ -1,6 +1,6 @@
 -- Pairs in order, and one turn of a search among them by halving.
 use Rattle.std.proofs.Common.{◌≡◌, ℕ, zero, suc, ◌+◌, ◌-◌, ◌<◌, ◌≤◌, true, false, List, [], ◌∷◌, map, length, get_or, take, drop, Some, None, sym, ap, ◌∙◌, subst, ⊎_elim, add-one, arith}
-use Rattle.std.specs.List.{AllByRecursion as All}
+use Rattle.std.specs.List.{AllByRecursion}
 use Rattle.std.proofs.ByRecursion.{All-get_or, All-from_get_or, All-weaker}
 use Rattle.std.proofs.lemmas.List.{length-take-le, get_or-take, get_or-map, length-map, take_all}
 use Rattle.std.proofs.lemmas.Bool.{cases_Bool, both_ways}
@@ -15,9 +15,9 @@ use Rattle.hashed.proofs.Filings.{next_none, next_some}
 -- each pair is below all that follow
 abbrev Rises : List Pair → Type 0
 Rises [] = Unit {0}
-Rises (p ∷ ps) = All (λ q. below p q ≡ true) ps × Rises ps
+Rises (p ∷ ps) = AllByRecursion (λ q. below p q ≡ true) ps × Rises ps
 
-under_pairs : (p : Pair) (fs : List Folder) → Under p fs → All (λ q. below p q ≡ true) (pairs_of fs)
+under_pairs : (p : Pair) (fs : List Folder) → Under p fs → AllByRecursion (λ q. below p q ≡ true) (pairs_of fs)
 under_pairs p [] u = tt
 under_pairs p (f ∷ fs) u = (u.0, under_pairs p fs u.1)
 
@@ -29,14 +29,14 @@ up_rises (f ∷ fs) up = (under_pairs f.pair fs up.0, up_rises fs up.1)
 not_below : (k p q : Pair) → below p q ≡ true → below k q ≡ false → below k p ≡ false
 not_below k p q h e = ⊎_elim (λ b. absurd (both_ways (below k q) e (below_trans k p q b h))) (λ b. b) (cases_Bool (below k p))
 
-rise_up : (k : Pair) (ps : List Pair) (mid : ℕ) → Rises ps → mid < length ps → below k (get_or ps mid (0, 0)) ≡ false → All (λ q. below k q ≡ false) (take (suc mid) ps)
+rise_up : (k : Pair) (ps : List Pair) (mid : ℕ) → Rises ps → mid < length ps → below k (get_or ps mid (0, 0)) ≡ false → AllByRecursion (λ q. below k q ≡ false) (take (suc mid) ps)
 rise_up k [] mid r l h = absurd (omega arith)
 rise_up k (p ∷ ps) zero r l h = (h, tt)
 rise_up k (p ∷ ps) (suc m) r l h =
     let a : below p (get_or ps m (0, 0)) ≡ true = All-get_or (λ q. below p q ≡ true) ps m (0, 0) (omega arith) r.0 in
     (not_below k p (get_or ps m (0, 0)) a h, rise_up k ps m r.1 (omega arith) h)
 
-rise_down : (k : Pair) (ps : List Pair) (mid : ℕ) → Rises ps → mid < length ps → below k (get_or ps mid (0, 0)) ≡ true → All (λ q. below k q ≡ true) (drop mid ps)
+rise_down : (k : Pair) (ps : List Pair) (mid : ℕ) → Rises ps → mid < length ps → below k (get_or ps mid (0, 0)) ≡ true → AllByRecursion (λ q. below k q ≡ true) (drop mid ps)
 rise_down k [] mid r l h = absurd (omega arith)
 rise_down k (p ∷ ps) zero r l h = (h, All-weaker (λ q. below p q ≡ true) (λ q. below k q ≡ true) (λ q a. below_trans k p q h a) ps r.0)
 rise_down k (p ∷ ps) (suc m) r l h = rise_down k ps m r.1 (omega arith) h
@@ -52,7 +52,7 @@ module _ (fs : List Folder) (order : List ℕ) (count : ℕ) (listed : count ≤
   rises : Rises (keys fs order count)
   rises = subst Rises (sym ordered.keyed) (up_rises (held_in fs count) (rising_gathered (folder_at fs) count))
 
-  pub inside_all : All (λ b. b < count) (take count order)
+  pub inside_all : AllByRecursion (λ b. b < count) (take count order)
   inside_all =
       All-from_get_or (λ b. b < count) (take count order) 0
       (λ i l. let h : i < count = omega (arith, length-take-le count order listed) in subst (λ (b : ℕ). b < count) (sym (get_or-take count order i 0 h)) (ordered.inside i h))
@@ -60,26 +60,26 @@ module _ (fs : List Folder) (order : List ℕ) (count : ℕ) (listed : count ≤
   key_of : (mid : ℕ) → mid < count → get_or (keys fs order count) mid (0, 0) ≡ pair_at fs (get_or order mid 0)
   key_of mid l = get_or-map (pair_at fs) (take count order) mid 0 (0, 0) (omega (arith, length-take-le count order listed)) ∙ ap (pair_at fs) (get_or-take count order mid 0 l)
 
-  pub up : (k : Pair) (mid : ℕ) → mid < count → below k (pair_at fs (get_or order mid 0)) ≡ false → All (λ q. below k q ≡ false) (take (mid + 1) (keys fs order count))
+  pub up : (k : Pair) (mid : ℕ) → mid < count → below k (pair_at fs (get_or order mid 0)) ≡ false → AllByRecursion (λ q. below k q ≡ false) (take (mid + 1) (keys fs order count))
   up k mid l h =
-      subst (λ (n : ℕ). All (λ q. below k q ≡ false) (take n (keys fs order count))) (sym (add-one mid))
+      subst (λ (n : ℕ). AllByRecursion (λ q. below k q ≡ false) (take n (keys fs order count))) (sym (add-one mid))
       (rise_up k (keys fs order count) mid rises (omega (arith, long)) (ap (below k) (key_of mid l) ∙ h))
 
-  pub down : (k : Pair) (mid : ℕ) → mid < count → below k (pair_at fs (get_or order mid 0)) ≡ true → All (λ q. below k q ≡ true) (drop mid (keys fs order count))
+  pub down : (k : Pair) (mid : ℕ) → mid < count → below k (pair_at fs (get_or order mid 0)) ≡ true → AllByRecursion (λ q. below k q ≡ true) (drop mid (keys fs order count))
   down k mid l h = rise_down k (keys fs order count) mid rises (omega (arith, long)) (ap (below k) (key_of mid l) ∙ h)
 
-  pub past_all : (k : Pair) (at : ℕ) → count ≤ at → All (λ q. below k q ≡ false) (take at (keys fs order count)) → next_pair k (held_in fs count) ≡ None
+  pub past_all : (k : Pair) (at : ℕ) → count ≤ at → AllByRecursion (λ q. below k q ≡ false) (take at (keys fs order count)) → next_pair k (held_in fs count) ≡ None
   past_all k at l a =
-      next_none k (held_in fs count) (subst (All (λ q. below k q ≡ false)) (take_all at (keys fs order count) (omega (arith, long)) ∙ ordered.keyed) a)
+      next_none k (held_in fs count) (subst (AllByRecursion (λ q. below k q ≡ false)) (take_all at (keys fs order count) (omega (arith, long)) ∙ ordered.keyed) a)
 
-  pub next_at : (k : Pair) (at : ℕ) → at < count → All (λ q. below k q ≡ false) (take at (keys fs order count)) → All (λ q. below k q ≡ true) (drop at (keys fs order count)) → next_pair k (held_in fs count) ≡ Some (pair_at fs (get_or order at 0))
+  pub next_at : (k : Pair) (at : ℕ) → at < count → AllByRecursion (λ q. below k q ≡ false) (take at (keys fs order count)) → AllByRecursion (λ q. below k q ≡ true) (drop at (keys fs order count)) → next_pair k (held_in fs count) ≡ Some (pair_at fs (get_or order at 0))
   next_at k at l a b =
       let e = ap (λ ps. get_or ps at (0, 0)) ordered.keyed in
       let here : below k (get_or (keys fs order count) at (0, 0)) ≡ true = first_of (keys fs order count) at (omega (arith, long)) b in
-      next_some k (held_in fs count) at (omega (arith, long, ap length ordered.keyed)) (subst (λ (ps : List Pair). All (λ q. below k q ≡ false) (take at ps)) ordered.keyed a) (ap (below k) (sym e) ∙ here)
+      next_some k (held_in fs count) at (omega (arith, long, ap length ordered.keyed)) (subst (λ (ps : List Pair). AllByRecursion (λ q. below k q ≡ false) (take at ps)) ordered.keyed a) (ap (below k) (sym e) ∙ here)
       ∙ ap Some (sym e ∙ key_of at l)
     where
-      first_of : (ps : List Pair) (i : ℕ) → i < length ps → All (λ q. below k q ≡ true) (drop i ps) → below k (get_or ps i (0, 0)) ≡ true
+      first_of : (ps : List Pair) (i : ℕ) → i < length ps → AllByRecursion (λ q. below k q ≡ true) (drop i ps) → below k (get_or ps i (0, 0)) ≡ true
       first_of [] i l a = absurd (omega arith)
       first_of (p ∷ ps) zero l a = a.0
       first_of (p ∷ ps) (suc i) l a = first_of ps i (omega arith) a

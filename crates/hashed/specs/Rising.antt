@@ -1,7 +1,7 @@
 -- Folders that are filed ascend, whatever they are, and each is one of them.
 use Rattle.std.specs.Prelude.{◌≡◌, ℕ, zero, suc, ◌≤◌, true, List, [], ◌∷◌, length}
 use Rattle.std.proofs.Common.{sym, subst, arith}
-use Rattle.std.specs.List.{AllByRecursion as All}
+use Rattle.std.specs.List.{AllByRecursion}
 use Rattle.std.proofs.lemmas.Bool.{cond_both}
 use Rattle.register.specs.Folders.{Pair, Folder, below, same}
 use Rattle.register.proofs.Pairs.{same_is, else_above}
@@ -9,13 +9,13 @@ use Rattle.register.proofs.Rising.{Under, Rising, under_lower}
 use Rattle.hashed.specs.Filing.{filed, gathered}
 
 -- what holds of a folder and of others holds of all of them, filed
-all_filed : (P : Folder → Type 0) (f : Folder) (gs : List Folder) → P f → All P gs → All P (filed f gs)
+all_filed : (P : Folder → Type 0) (f : Folder) (gs : List Folder) → P f → AllByRecursion P gs → AllByRecursion P (filed f gs)
 all_filed P f [] h a = (h, tt)
 all_filed P f (g ∷ gs) h a =
-    cond_both (same f.pair g.pair) _ _ (All P) (λ e. (h, a.1))
-    (λ e. cond_both (below f.pair g.pair) _ _ (All P) (λ l. (h, a)) (λ l. (a.0, all_filed P f gs h a.1)))
+    cond_both (same f.pair g.pair) _ _ (AllByRecursion P) (λ e. (h, a.1))
+    (λ e. cond_both (below f.pair g.pair) _ _ (AllByRecursion P) (λ l. (h, a)) (λ l. (a.0, all_filed P f gs h a.1)))
 
-pub all_gathered : (P : Folder → Type 0) (f : ℕ → Folder) (n : ℕ) → ((i : ℕ) → P (f i)) → All P (gathered f n)
+pub all_gathered : (P : Folder → Type 0) (f : ℕ → Folder) (n : ℕ) → ((i : ℕ) → P (f i)) → AllByRecursion P (gathered f n)
 all_gathered P f zero h = tt
 all_gathered P f (suc n) h = all_filed P (f n) (gathered f n) (h n) (all_gathered P f n h)
 

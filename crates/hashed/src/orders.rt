@@ -1,6 +1,6 @@
 // The order of the blocks by pair: the places of blocks, ascending by what they hold.
 ghost use Rattle.std.specs.Prelude.{◌≡◌, ◌+◌, ◌-◌, ◌<◌, ◌≤◌, true, false, ◌∷◌, ◌++◌, map, length, take, drop};
-ghost use Rattle.std.specs.List.{AllByRecursion as All};
+ghost use Rattle.std.specs.List.{AllByRecursion};
 ghost use Rattle.register.specs.Folders.{below, next_pair};
 ghost use Rattle.hashed.specs.Table.{folders_of, pair_at, held_in, Ordered};
 
@@ -27,8 +27,8 @@ pub(crate) fn locate(blocks: &[Block], order: &[u32], count: usize, system: u64,
     requires listed { count ≤ length order.now }
     requires ordered { Ordered (folders_of blocks.now) order.now count }
     ensures within { result ≤ count }
-    ensures before { All (λ q. below (system, view) q ≡ false) (take result (map (pair_at (folders_of blocks.now)) (take count order.now))) }
-    ensures behind { All (λ q. below (system, view) q ≡ true) (drop result (map (pair_at (folders_of blocks.now)) (take count order.now))) }
+    ensures before { AllByRecursion (λ q. below (system, view) q ≡ false) (take result (map (pair_at (folders_of blocks.now)) (take count order.now))) }
+    ensures behind { AllByRecursion (λ q. below (system, view) q ≡ true) (drop result (map (pair_at (folders_of blocks.now)) (take count order.now))) }
 {
     let mut low = 0;
     let mut high = count;

@@ -1,6 +1,6 @@
 -- A row more, behind those of its kind.
 use Rattle.std.proofs.Common.{◌≡◌, ℕ, zero, suc, ◌+◌, ◌-◌, ◌<◌, ◌≤◌, Bool, true, false, cond, ◌&&◌, ◌||◌, eqb, ltb, ◌⊎◌, List, [], ◌∷◌, ◌++◌, length, get_or, take, drop, Some, None, Option, sym, refl, ap, ◌∙◌, subst, inl, inr, ⊎_elim, arith, take-add}
-use Rattle.std.specs.List.{insert, AllByRecursion as All}
+use Rattle.std.specs.List.{insert, AllByRecursion}
 use Rattle.std.proofs.ByRecursion.{All-weaker, All-append, All-get_or}
 use Rattle.std.proofs.lemmas.List.{append-nil, take-append-drop, drop-drop, get_or-take, get_or-drop, length-take-le, length-drop, length_push}
 use Rattle.std.proofs.lemmas.Bool.{cases_Bool, both_ways, or_cases, and_parts, and_from, and_left, and_right, lt-ltb, le-ltb, eq-eqb, ltb-true}
@@ -34,7 +34,7 @@ unheld_step p l s v None xs n h =
     (cases_Bool (same p (s, v)))
 unheld_step p l s v (Some r) xs n h = h
 
-unheld_behind : (p : Pair) (l : ℕ) (xs : List Entry) → All (NotBefore (key_at p (suc l) 0)) xs → holds p (folders_of xs) ≡ false
+unheld_behind : (p : Pair) (l : ℕ) (xs : List Entry) → AllByRecursion (NotBefore (key_at p (suc l) 0)) xs → holds p (folders_of xs) ≡ false
 unheld_behind p l [] a = refl
 unheld_behind p l (x ∷ xs) a = unheld_step p l x.system x.view x.row xs a.0 (unheld_behind p l xs a.1)
 
@@ -48,7 +48,7 @@ held_on p l e s v None xs h u (inr t) = ⊎_elim (λ a. inl (sym (same_is p (s, 
 held_on p l e s v (Some r) xs h u (inl q) = inl (behind_row e s v r xs h ∙ q)
 held_on p l e s v (Some r) xs h u (inr t) = inr t
 
-held_last_from : (p : Pair) (l : ℕ) (e : Entry) (xs ys : List Entry) → in_order_from e (xs ++ ys) ≡ true → All (Before (key_at p (suc l) 0)) xs → All (NotBefore (key_at p (suc l) 0)) ys → (pair_of e ≡ p) ⊎ (holds p (folders_of (xs ++ ys)) ≡ true) → pair_of (last_of e xs) ≡ p
+held_last_from : (p : Pair) (l : ℕ) (e : Entry) (xs ys : List Entry) → in_order_from e (xs ++ ys) ≡ true → AllByRecursion (Before (key_at p (suc l) 0)) xs → AllByRecursion (NotBefore (key_at p (suc l) 0)) ys → (pair_of e ≡ p) ⊎ (holds p (folders_of (xs ++ ys)) ≡ true) → pair_of (last_of e xs) ≡ p
 held_last_from p l e [] ys h a b (inl q) = q
 held_last_from p l e [] ys h a b (inr t) = absurd (both_ways (holds p (folders_of ys)) (unheld_behind p l ys b) t)
 held_last_from p l e (x ∷ xs) ys h a b t =
@@ -58,7 +58,7 @@ held_first : (p : Pair) (s v : ℕ) (o : Option Row) (xs : List Entry) → holds
 held_first p s v None xs t = ⊎_elim (λ a. inl (sym (same_is p (s, v) a))) inr (or_cases (same p (s, v)) (holds p (folders_of xs)) t)
 held_first p s v (Some r) xs t = inr t
 
-held_last : (p : Pair) (l : ℕ) (xs : List Entry) (at : ℕ) (d : Entry) → in_order xs ≡ true → All (Before (key_at p (suc l) 0)) (take at xs) → All (NotBefore (key_at p (suc l) 0)) (drop at xs) → at ≤ length xs → holds p (folders_of xs) ≡ true → (0 < at) × (pair_of (get_or xs (at - 1) d) ≡ p)
+held_last : (p : Pair) (l : ℕ) (xs : List Entry) (at : ℕ) (d : Entry) → in_order xs ≡ true → AllByRecursion (Before (key_at p (suc l) 0)) (take at xs) → AllByRecursion (NotBefore (key_at p (suc l) 0)) (drop at xs) → at ≤ length xs → holds p (folders_of xs) ≡ true → (0 < at) × (pair_of (get_or xs (at - 1) d) ≡ p)
 held_last p l [] at d h a b w t = absurd (both_ways false refl t)
 held_last p l (e ∷ es) zero d h a b w t = absurd (both_ways (holds p (folders_of (e ∷ es))) (unheld_behind p l (e ∷ es) b) t)
 held_last p l (e ∷ es) (suc n) d h a b w t =
@@ -83,7 +83,7 @@ more_rows : (here : Bool) (k : Kind) (o : Option Row) (rs : List Row) (r : Row) 
 more_rows here k None rs r h l = refl
 more_rows here k (Some q) rs r h l = ap (λ b. starts_after (cond b (q ∷ rs) rs) r) h ∙ after_more q rs r l
 
-starts_last : (p : Pair) (k : Kind) (ds : List Entry) (n : ℕ) (r : Row) (d : Entry) → n < length ds → All (λ e. in_part p k e ≡ true) (take (suc n) ds) → starts_after (rows_in p k (take (suc n) ds)) r ≡ ltb (start_in (get_or ds n d).row) (start_of_row r)
+starts_last : (p : Pair) (k : Kind) (ds : List Entry) (n : ℕ) (r : Row) (d : Entry) → n < length ds → AllByRecursion (λ e. in_part p k e ≡ true) (take (suc n) ds) → starts_after (rows_in p k (take (suc n) ds)) r ≡ ltb (start_in (get_or ds n d).row) (start_of_row r)
 starts_last p k [] n r d l a = absurd (omega arith)
 starts_last p k (y ∷ ys) zero r d l a = one_row (same p (pair_of y)) k y.row r a.0
 starts_last p k (y ∷ ys) (suc n) r d l a =
@@ -139,7 +139,7 @@ module _ (s v : ℕ) (r : Row) where
       (λ t. lower_inner (key_of x) (key_of y) (sym (ap (λ q. q.0) t.0)) (sym (ap (λ q. q.1) t.0)) (earlier_less (suc (rank_of k)) (level_of y.row) (ltb (start_of_row r) (start_in y.row)) (omega (arith, t.1))))
       (stands_behind (s, v) (suc (suc (rank_of k))) 0 y n)
 
-  put_order : (xs : List Entry) (at : ℕ) (d : Entry) → 0 < at → at ≤ length xs → pair_of (get_or xs (at - 1) d) ≡ (s, v) → lower (key_of (get_or xs (at - 1) d)) (key_of x) ≡ true → All (λ y. lower (key_of x) (key_of y) ≡ true) (drop at xs) → in_order xs ≡ true → in_order (insert xs at x) ≡ true
+  put_order : (xs : List Entry) (at : ℕ) (d : Entry) → 0 < at → at ≤ length xs → pair_of (get_or xs (at - 1) d) ≡ (s, v) → lower (key_of (get_or xs (at - 1) d)) (key_of x) ≡ true → AllByRecursion (λ y. lower (key_of x) (key_of y) ≡ true) (drop at xs) → in_order xs ≡ true → in_order (insert xs at x) ≡ true
   put_order xs zero d some w p l a h = absurd (omega arith)
   put_order [] (suc n) d some w p l a h = absurd (omega arith)
   put_order (e ∷ es) (suc n) d some w p l a h =
@@ -154,16 +154,16 @@ module _ (s v : ℕ) (r : Row) where
     abbrev ys : List Entry
     ys = insert xs (from + count) x
 
-    front : All (Before hi) (take (from + count) xs)
+    front : AllByRecursion (Before hi) (take (from + count) xs)
     front =
-        subst (All (Before hi)) (sym (take-add from count xs))
+        subst (AllByRecursion (Before hi)) (sym (take-add from count xs))
         (All-append (Before hi) (take from xs) (take count (drop from xs))
         (All-weaker (Before (key_at (s, v) (suc (rank_of k)) 0)) (Before hi)
         (λ e u. lower_onward (key_of e) (key_at (s, v) (suc (rank_of k)) 0) hi u (lower_inner (key_at (s, v) (suc (rank_of k)) 0) hi refl refl (earlier_less (suc (rank_of k)) (suc (suc (rank_of k))) (ltb 0 0) (omega arith)))) (take from xs) part.before)
         part.upto)
 
-    back : All (NotBefore hi) (drop (from + count) xs)
-    back = subst (All (NotBefore hi)) (drop-drop count from xs) part.behind
+    back : AllByRecursion (NotBefore hi) (drop (from + count) xs)
+    back = subst (AllByRecursion (NotBefore hi)) (drop-drop count from xs) part.behind
 
     pub unheld_at_0 : from + count ≡ 0 → holds (s, v) (folders_of xs) ≡ false
     unheld_at_0 e = ⊎_elim (λ t. absurd (omega (arith, (held_last (s, v) (suc (rank_of k)) xs (from + count) x h front back part.within t).0))) (λ f. f) (cases_Bool (holds (s, v) (folders_of xs)))

@@ -1,6 +1,6 @@
 -- What a change of one folder leaves of the others, and when entries are the folders so changed.
 use Rattle.std.proofs.Common.{◌≡◌, ℕ, suc, ◌≤◌, true, false, cond, ◌&&◌, ◌||◌, List, [], ◌∷◌, ◌++◌, length, get_or, drop, Some, None, Option, sym, refl, ap, ◌∙◌, subst, ⊎_elim, arith}
-use Rattle.std.specs.List.{AllByRecursion as All}
+use Rattle.std.specs.List.{AllByRecursion}
 use Rattle.std.proofs.lemmas.Bool.{cond_both, cases_Bool, or_parts, and_left, and_right}
 use Rattle.register.specs.Folders.{Pair, Rows, Folder, below, same, rows_of, holds, made, changed, with_kind, same_kind, no_rows}
 use Rattle.register.specs.Walks.{pairs_of}
@@ -155,7 +155,7 @@ length_made p (f ∷ fs) n =
     ∙ cond_both (below p f.pair) (record { pair = p; rows = no_rows } ∷ f ∷ fs) (f ∷ made p fs) (λ l. length l ≡ suc (length (f ∷ fs)))
     (λ _. refl) (λ _. ap suc (length_made p fs t.1))
 
-pub pairs_made : (p : Pair) (ps qs : List Pair) (fs : List Folder) → pairs_of fs ≡ ps ++ qs → All (λ q. below q p ≡ true) ps → All (λ q. below p q ≡ true) qs → pairs_of (made p fs) ≡ ps ++ p ∷ qs
+pub pairs_made : (p : Pair) (ps qs : List Pair) (fs : List Folder) → pairs_of fs ≡ ps ++ qs → AllByRecursion (λ q. below q p ≡ true) ps → AllByRecursion (λ q. below p q ≡ true) qs → pairs_of (made p fs) ≡ ps ++ p ∷ qs
 pairs_made p [] [] [] e a b = refl
 pairs_made p [] [] (f ∷ fs) e a b = let z : suc (length (pairs_of fs)) ≡ 0 = ap length e in absurd (omega arith)
 pairs_made p [] (q ∷ qs) [] e a b = let z : 0 ≡ suc (length qs) = ap length e in absurd (omega arith)

@@ -1,6 +1,6 @@
 -- The rows of a kind from a day on, taken out.
 use Rattle.std.proofs.Common.{◌≡◌, ℕ, suc, ◌<◌, ◌≤◌, Bool, true, false, cond, ◌&&◌, List, [], ◌∷◌, ◌++◌, map, length, take, drop, Some, None, Option, sym, refl, ap, ◌∙◌, subst, ⊎_elim, arith}
-use Rattle.std.specs.List.{AllByRecursion as All}
+use Rattle.std.specs.List.{AllByRecursion}
 use Rattle.std.proofs.ByRecursion.{All-weaker}
 use Rattle.std.proofs.lemmas.List.{append-nil, length-take}
 use Rattle.std.proofs.lemmas.Bool.{cases_Bool, both_ways, and_parts, and_from, cond_both, le-leb, lt-leb, eq-eqb}
@@ -23,16 +23,16 @@ use Rattle.ordered.proofs.Changes.{pinned, pairs_append, pairs_changed, kind_row
 use Rattle.ordered.proofs.Inserts.{remove_rows}
 
 -- what holds of the starts of a part's entries holds of the starts of its rows
-counted_all : (P : ℕ → Type 0) (here : Bool) (k : Kind) (o : Option Row) (rs : List Row) → ((here && of_kind k o) ≡ true → P (start_in o)) → All (λ r. P (start_of_row r)) rs → All (λ r. P (start_of_row r)) (counted here k o rs)
+counted_all : (P : ℕ → Type 0) (here : Bool) (k : Kind) (o : Option Row) (rs : List Row) → ((here && of_kind k o) ≡ true → P (start_in o)) → AllByRecursion (λ r. P (start_of_row r)) rs → AllByRecursion (λ r. P (start_of_row r)) (counted here k o rs)
 counted_all P here k None rs h a = a
-counted_all P here k (Some r) rs h a = cond_both (here && same_kind k (kind_of_row r)) (r ∷ rs) rs (All (λ q. P (start_of_row q))) (λ t. (h t, a)) (λ _. a)
+counted_all P here k (Some r) rs h a = cond_both (here && same_kind k (kind_of_row r)) (r ∷ rs) rs (AllByRecursion (λ q. P (start_of_row q))) (λ t. (h t, a)) (λ _. a)
 
-rows_in_all : (P : ℕ → Type 0) (p : Pair) (k : Kind) (xs : List Entry) → All (λ e. in_part p k e ≡ true → P (start_in e.row)) xs → All (λ r. P (start_of_row r)) (rows_in p k xs)
+rows_in_all : (P : ℕ → Type 0) (p : Pair) (k : Kind) (xs : List Entry) → AllByRecursion (λ e. in_part p k e ≡ true → P (start_in e.row)) xs → AllByRecursion (λ r. P (start_of_row r)) (rows_in p k xs)
 rows_in_all P p k [] a = tt
 rows_in_all P p k (x ∷ xs) a = counted_all P (same p (pair_of x)) k x.row (rows_in p k xs) a.0 (rows_in_all P p k xs a.1)
 
 -- the rows that start before the day, in front of those that do not
-kept_front : (day : ℕ) (rs qs : List Row) → All (λ r. start_of_row r < day) rs → All (λ r. day ≤ start_of_row r) qs → kept_rows day (rs ++ qs) ≡ rs
+kept_front : (day : ℕ) (rs qs : List Row) → AllByRecursion (λ r. start_of_row r < day) rs → AllByRecursion (λ r. day ≤ start_of_row r) qs → kept_rows day (rs ++ qs) ≡ rs
 kept_front day [] [] a b = refl
 kept_front day [] (q ∷ qs) a b = ap (λ t. take (cond t 0 (suc (before day (map start_of_row qs)))) (q ∷ qs)) (le-leb day (start_of_row q) b.0)
 kept_front day (r ∷ rs) qs a b =
@@ -47,7 +47,7 @@ no_folders : (s v : ℕ) (o : Option Row) (xs : List Entry) → is_folder o ≡ 
 no_folders s v None xs n e = absurd (both_ways true n refl)
 no_folders s v (Some r) xs n e = e
 
-rows_only : (xs : List Entry) → All (λ m. is_folder m.row ≡ false) xs → folders_of xs ≡ []
+rows_only : (xs : List Entry) → AllByRecursion (λ m. is_folder m.row ≡ false) xs → folders_of xs ≡ []
 rows_only [] a = refl
 rows_only (x ∷ xs) a = no_folders x.system x.view x.row xs a.0 (rows_only xs a.1)
 
@@ -77,7 +77,7 @@ module _ (p : Pair) (k : Kind) (day : ℕ) (xs : List Entry) (from count : ℕ) 
   abbrev back : List Entry
   back = drop count (drop from xs)
 
-  mid_rows : All (λ m. is_folder m.row ≡ false) mid
+  mid_rows : AllByRecursion (λ m. is_folder m.row ≡ false) mid
   mid_rows = All-weaker (λ e. in_part p k e ≡ true) (λ m. is_folder m.row ≡ false) (λ e t. part_row (same p (pair_of e)) k e.row t) mid (part_all p k day xs from count part)
 
   pub cut_order : in_order (front ++ back) ≡ true

@@ -1,6 +1,6 @@
 -- Entries stay in order when one is put in at its place, and when rows are taken out.
 use Rattle.std.proofs.Common.{◌≡◌, ℕ, zero, suc, ◌<◌, true, false, ◌||◌, List, [], ◌∷◌, ◌++◌, length, get_or, take, Some, None, sym, refl, ap, ◌∙◌, subst, ⊎_elim, arith}
-use Rattle.std.specs.List.{AllByRecursion as All}
+use Rattle.std.specs.List.{AllByRecursion}
 use Rattle.std.proofs.lemmas.Bool.{both_ways, and_parts, and_from, or_cases, or_left}
 use Rattle.register.specs.Folders.{Pair, below, same}
 use Rattle.register.proofs.Pairs.{below_trans, never_below, same_is, is_same}
@@ -16,7 +16,7 @@ abbrev pub last_of : Entry → List Entry → Entry
 last_of e [] = e
 last_of e (x ∷ xs) = last_of x xs
 
-all_last : (P : Entry → Type 0) (e : Entry) (xs : List Entry) → All P (e ∷ xs) → P (last_of e xs)
+all_last : (P : Entry → Type 0) (e : Entry) (xs : List Entry) → AllByRecursion P (e ∷ xs) → P (last_of e xs)
 all_last P e [] a = a.0
 all_last P e (x ∷ xs) a = all_last P x xs a.1
 
@@ -42,20 +42,20 @@ module _ (s v : ℕ) where
       ⊎_elim (λ t. t) (λ t. absurd (never_below (s, v) (below_trans (s, v) (pair_of e) (s, v) (ap (below (s, v)) (sym (same_is (pair_of y) (pair_of e) t)) ∙ c) b)))
       (or_cases (is_folder y.row) (same (pair_of y) (pair_of e)) h)
 
-  folder_before : (ys : List Entry) → All (λ y. below (s, v) (pair_of y) ≡ true) ys → in_order ys ≡ true → in_order_from (entry s v None) ys ≡ true
+  folder_before : (ys : List Entry) → AllByRecursion (λ y. below (s, v) (pair_of y) ≡ true) ys → in_order ys ≡ true → in_order_from (entry s v None) ys ≡ true
   folder_before [] a h = refl
   folder_before (y ∷ ys) a h =
       let t = and_parts (is_folder y.row) (in_order_from y ys) h in
       may_follow (entry s v None) y ys (lower_below (key_of (entry s v None)) (key_of y) a.0) (or_left (is_folder y.row) (same (pair_of y) (s, v)) t.0) t.1
 
-  folder_step : (ys : List Entry) → All (λ y. below (s, v) (pair_of y) ≡ true) ys → (e : Entry) → below (pair_of e) (s, v) ≡ true → in_order_from e ys ≡ true → in_order_from e (entry s v None ∷ ys) ≡ true
+  folder_step : (ys : List Entry) → AllByRecursion (λ y. below (s, v) (pair_of y) ≡ true) ys → (e : Entry) → below (pair_of e) (s, v) ≡ true → in_order_from e ys ≡ true → in_order_from e (entry s v None ∷ ys) ≡ true
   folder_step [] a e b h = may_follow e (entry s v None) [] (lower_below (key_of e) (key_of (entry s v None)) b) refl refl
   folder_step (y ∷ ys) a e b h =
       let f : is_folder y.row ≡ true = folder_then e y ys b a.0 (behind_pair e y ys h) in
       may_follow e (entry s v None) (y ∷ ys) (lower_below (key_of e) (key_of (entry s v None)) b) refl
       (folder_before (y ∷ ys) a (and_from (is_folder y.row) (in_order_from y ys) f (behind_rest e y ys h)))
 
-  pub insert_folder : (xs ys : List Entry) → All (λ x. below (pair_of x) (s, v) ≡ true) xs → All (λ y. below (s, v) (pair_of y) ≡ true) ys → in_order (xs ++ ys) ≡ true → in_order (xs ++ entry s v None ∷ ys) ≡ true
+  pub insert_folder : (xs ys : List Entry) → AllByRecursion (λ x. below (pair_of x) (s, v) ≡ true) xs → AllByRecursion (λ y. below (s, v) (pair_of y) ≡ true) ys → in_order (xs ++ ys) ≡ true → in_order (xs ++ entry s v None ∷ ys) ≡ true
   insert_folder [] ys a b h = folder_before ys b h
   insert_folder (e ∷ xs) ys a b h =
       let t = and_parts (is_folder e.row) (in_order_from e (xs ++ ys)) h in
@@ -67,15 +67,15 @@ module _ (s v : ℕ) (r : Row) where
   abbrev Leads : Entry → Type 0
   Leads e = (pair_of e ≡ (s, v)) × (lower (key_of e) (key_of (entry s v (Some r))) ≡ true)
 
-  row_before : (e : Entry) (ys : List Entry) → pair_of e ≡ (s, v) → All (λ y. lower (key_of (entry s v (Some r))) (key_of y) ≡ true) ys → in_order_from e ys ≡ true → in_order_from (entry s v (Some r)) ys ≡ true
+  row_before : (e : Entry) (ys : List Entry) → pair_of e ≡ (s, v) → AllByRecursion (λ y. lower (key_of (entry s v (Some r))) (key_of y) ≡ true) ys → in_order_from e ys ≡ true → in_order_from (entry s v (Some r)) ys ≡ true
   row_before e [] p a h = refl
   row_before e (y ∷ ys) p a h =
       may_follow (entry s v (Some r)) y ys a.0 (subst (λ (q : Pair). (is_folder y.row || same (pair_of y) q) ≡ true) p (behind_pair e y ys h)) (behind_rest e y ys h)
 
-  row_step : (ys : List Entry) → All (λ y. lower (key_of (entry s v (Some r))) (key_of y) ≡ true) ys → (e : Entry) → Leads e → in_order_from e ys ≡ true → in_order_from e (entry s v (Some r) ∷ ys) ≡ true
+  row_step : (ys : List Entry) → AllByRecursion (λ y. lower (key_of (entry s v (Some r))) (key_of y) ≡ true) ys → (e : Entry) → Leads e → in_order_from e ys ≡ true → in_order_from e (entry s v (Some r) ∷ ys) ≡ true
   row_step ys a e b h = may_follow e (entry s v (Some r)) ys b.1 (is_same (s, v) (pair_of e) (sym b.0)) (row_before e ys b.0 a h)
 
-  pub insert_row : (e : Entry) (xs ys : List Entry) → Leads (last_of e xs) → All (λ y. lower (key_of (entry s v (Some r))) (key_of y) ≡ true) ys → in_order (e ∷ xs ++ ys) ≡ true → in_order (e ∷ xs ++ entry s v (Some r) ∷ ys) ≡ true
+  pub insert_row : (e : Entry) (xs ys : List Entry) → Leads (last_of e xs) → AllByRecursion (λ y. lower (key_of (entry s v (Some r))) (key_of y) ≡ true) ys → in_order (e ∷ xs ++ ys) ≡ true → in_order (e ∷ xs ++ entry s v (Some r) ∷ ys) ≡ true
   insert_row e xs ys b a h =
       let t = and_parts (is_folder e.row) (in_order_from e (xs ++ ys)) h in
       and_from (is_folder e.row) (in_order_from e (xs ++ entry s v (Some r) ∷ ys)) t.0
@@ -92,17 +92,17 @@ row_out e m (y ∷ ys) n h =
     (subst (λ (q : Pair). (is_folder y.row || same (pair_of y) q) ≡ true) of (behind_pair m y ys rest))
     (behind_rest m y ys rest)
 
-rows_out : (e : Entry) (ms ys : List Entry) → All (λ m. is_folder m.row ≡ false) ms → in_order_from e (ms ++ ys) ≡ true → in_order_from e ys ≡ true
+rows_out : (e : Entry) (ms ys : List Entry) → AllByRecursion (λ m. is_folder m.row ≡ false) ms → in_order_from e (ms ++ ys) ≡ true → in_order_from e ys ≡ true
 rows_out e [] ys a h = h
 rows_out e (m ∷ ms) ys a h = rows_out e ms ys a.1 (row_out e m (ms ++ ys) a.0 h)
 
-remove_from : (e : Entry) (xs ms ys : List Entry) → All (λ m. is_folder m.row ≡ false) ms → in_order_from e (xs ++ (ms ++ ys)) ≡ true → in_order_from e (xs ++ ys) ≡ true
+remove_from : (e : Entry) (xs ms ys : List Entry) → AllByRecursion (λ m. is_folder m.row ≡ false) ms → in_order_from e (xs ++ (ms ++ ys)) ≡ true → in_order_from e (xs ++ ys) ≡ true
 remove_from e [] ms ys a h = rows_out e ms ys a h
 remove_from e (x ∷ xs) ms ys a h =
     may_follow e x (xs ++ ys) (behind_lower e x (xs ++ (ms ++ ys)) h) (behind_pair e x (xs ++ (ms ++ ys)) h)
     (remove_from x xs ms ys a (behind_rest e x (xs ++ (ms ++ ys)) h))
 
-pub remove_rows : (xs ms ys : List Entry) → All (λ m. is_folder m.row ≡ false) ms → in_order (xs ++ (ms ++ ys)) ≡ true → in_order (xs ++ ys) ≡ true
+pub remove_rows : (xs ms ys : List Entry) → AllByRecursion (λ m. is_folder m.row ≡ false) ms → in_order (xs ++ (ms ++ ys)) ≡ true → in_order (xs ++ ys) ≡ true
 remove_rows [] [] ys a h = h
 remove_rows [] (m ∷ ms) ys a h = absurd (both_ways (is_folder m.row) a.0 (and_parts (is_folder m.row) (in_order_from m (ms ++ ys)) h).0)
 remove_rows (e ∷ xs) ms ys a h =

@@ -1,6 +1,6 @@
 -- A folder more, at its place.
 use Rattle.std.proofs.Common.{◌≡◌, ℕ, zero, suc, ◌+◌, ◌<◌, ◌≤◌, true, false, ◌||◌, List, [], ◌∷◌, ◌++◌, length, get_or, take, drop, Some, None, Option, sym, refl, ap, ◌∙◌, subst, ⊎_elim, arith}
-use Rattle.std.specs.List.{insert, AllByRecursion as All}
+use Rattle.std.specs.List.{insert, AllByRecursion}
 use Rattle.std.proofs.ByRecursion.{All-weaker, All-append}
 use Rattle.std.proofs.lemmas.List.{take-append-drop, drop_all, drop_more}
 use Rattle.std.proofs.lemmas.Bool.{both_ways, or_left, or_right}
@@ -21,7 +21,7 @@ use Rattle.ordered.proofs.Probes.{before_pair, from_pair}
 use Rattle.ordered.proofs.Changes.{pinned, pairs_append, rows_made, pairs_made}
 use Rattle.ordered.proofs.Inserts.{insert_folder}
 
-has_pair_none : (p : Pair) (xs : List Entry) → All (λ e. same p (pair_of e) ≡ false) xs → has_pair p xs ≡ false
+has_pair_none : (p : Pair) (xs : List Entry) → AllByRecursion (λ e. same p (pair_of e) ≡ false) xs → has_pair p xs ≡ false
 has_pair_none p [] a = refl
 has_pair_none p (x ∷ xs) a = ap (λ b. b || has_pair p xs) a.0 ∙ has_pair_none p xs a.1
 
@@ -31,15 +31,15 @@ has_pair_at p (x ∷ xs) zero d l t = or_left (same p (pair_of x)) (has_pair p x
 has_pair_at p (x ∷ xs) (suc i) d l t = or_right (same p (pair_of x)) (has_pair p xs) (has_pair_at p xs i d (omega arith) t)
 
 -- what is said of the pairs of entries is said of the pairs of folders
-pairs_all_step : (P : Pair → Type 0) (s v : ℕ) (o : Option Row) (xs : List Entry) → P (s, v) → All P (pairs_of (folders_of xs)) → All P (pairs_of (folders_of (entry s v o ∷ xs)))
+pairs_all_step : (P : Pair → Type 0) (s v : ℕ) (o : Option Row) (xs : List Entry) → P (s, v) → AllByRecursion P (pairs_of (folders_of xs)) → AllByRecursion P (pairs_of (folders_of (entry s v o ∷ xs)))
 pairs_all_step P s v None xs p a = (p, a)
 pairs_all_step P s v (Some r) xs p a = a
 
-pairs_all : (P : Pair → Type 0) (xs : List Entry) → All (λ e. P (pair_of e)) xs → All P (pairs_of (folders_of xs))
+pairs_all : (P : Pair → Type 0) (xs : List Entry) → AllByRecursion (λ e. P (pair_of e)) xs → AllByRecursion P (pairs_of (folders_of xs))
 pairs_all P [] a = tt
 pairs_all P (x ∷ xs) a = pairs_all_step P x.system x.view x.row xs a.0 (pairs_all P xs a.1)
 
-module _ (s v : ℕ) (xs : List Entry) (at : ℕ) (h : in_order xs ≡ true) (within : at ≤ length xs) (before : All (λ e. below (pair_of e) (s, v) ≡ true) (take at xs)) (behind : All (λ e. below (s, v) (pair_of e) ≡ true) (drop at xs)) where
+module _ (s v : ℕ) (xs : List Entry) (at : ℕ) (h : in_order xs ≡ true) (within : at ≤ length xs) (before : AllByRecursion (λ e. below (pair_of e) (s, v) ≡ true) (take at xs)) (behind : AllByRecursion (λ e. below (s, v) (pair_of e) ≡ true) (drop at xs)) where
   abbrev ys : List Entry
   ys = insert xs at (entry s v None)
 
@@ -79,28 +79,28 @@ pub few_made : (p : Pair) (xs ys : List Entry) → holds p (folders_of xs) ≡ f
 few_made p xs ys n e few q k = subst (λ (rs : List Row). length rs ≤ maximum_of k) (sym (ap (λ fs. rows_of q fs k) e ∙ rows_made q p k (folders_of xs) n)) (few q k)
 
 -- what a search for the folder's key tells
-above_rest : (p : Pair) (y : Entry) (ys : List Entry) → below p (pair_of y) ≡ true → Over y ys → All (λ e. below p (pair_of e) ≡ true) ys
+above_rest : (p : Pair) (y : Entry) (ys : List Entry) → below p (pair_of y) ≡ true → Over y ys → AllByRecursion (λ e. below p (pair_of e) ≡ true) ys
 above_rest p y ys b a =
     All-weaker (λ e. lower (key_of y) (key_of e) ≡ true) (λ e. below p (pair_of e) ≡ true)
     (λ e l. ⊎_elim (λ c. below_trans p (pair_of y) (pair_of e) b c) (λ t. subst (λ (q : Pair). below p q ≡ true) t.0 b) (lower_read (key_of y) (key_of e) l))
     ys a
 
-module _ (s v : ℕ) (xs : List Entry) (at : ℕ) (h : in_order xs ≡ true) (before : All (Before (key_at (s, v) 0 0)) (take at xs)) (behind : All (NotBefore (key_at (s, v) 0 0)) (drop at xs)) where
-  pub lower_pairs : All (λ e. below (pair_of e) (s, v) ≡ true) (take at xs)
+module _ (s v : ℕ) (xs : List Entry) (at : ℕ) (h : in_order xs ≡ true) (before : AllByRecursion (Before (key_at (s, v) 0 0)) (take at xs)) (behind : AllByRecursion (NotBefore (key_at (s, v) 0 0)) (drop at xs)) where
+  pub lower_pairs : AllByRecursion (λ e. below (pair_of e) (s, v) ≡ true) (take at xs)
   lower_pairs = All-weaker (Before (key_at (s, v) 0 0)) (λ e. below (pair_of e) (s, v) ≡ true) (λ e u. before_pair (s, v) e u) (take at xs) before
 
-  pub no_pairs : length xs ≤ at → All (λ e. below (s, v) (pair_of e) ≡ true) (drop at xs)
-  no_pairs l = subst (All (λ e. below (s, v) (pair_of e) ≡ true)) (sym (drop_all at xs l)) tt
+  pub no_pairs : length xs ≤ at → AllByRecursion (λ e. below (s, v) (pair_of e) ≡ true) (drop at xs)
+  no_pairs l = subst (AllByRecursion (λ e. below (s, v) (pair_of e) ≡ true)) (sym (drop_all at xs l)) tt
 
   module _ (l : at < length xs) (e : Entry) (is : e ≡ get_or xs at e) where
     split : drop at xs ≡ e ∷ drop (at + 1) xs
     split = drop_more xs at e l ∙ ap (λ x. x ∷ drop (at + 1) xs) (sym is)
 
-    pub higher_pairs : same (s, v) (pair_of e) ≡ false → All (λ e. below (s, v) (pair_of e) ≡ true) (drop at xs)
+    pub higher_pairs : same (s, v) (pair_of e) ≡ false → AllByRecursion (λ e. below (s, v) (pair_of e) ≡ true) (drop at xs)
     higher_pairs n =
-        let first : below (s, v) (pair_of e) ≡ true = ⊎_elim (λ q. absurd (both_ways (same (s, v) (pair_of e)) n (is_same (s, v) (pair_of e) (sym q)))) (λ b. b) (from_pair (s, v) e (subst (All (NotBefore (key_at (s, v) 0 0))) split behind).0) in
+        let first : below (s, v) (pair_of e) ≡ true = ⊎_elim (λ q. absurd (both_ways (same (s, v) (pair_of e)) n (is_same (s, v) (pair_of e) (sym q)))) (λ b. b) (from_pair (s, v) e (subst (AllByRecursion (NotBefore (key_at (s, v) 0 0))) split behind).0) in
         let over : Over e (drop (at + 1) xs) = (subst Ascends split (ascends_drop at xs (ascends xs h))).0 in
-        subst (All (λ x. below (s, v) (pair_of x) ≡ true)) (sym split) (first, above_rest (s, v) e (drop (at + 1) xs) first over)
+        subst (AllByRecursion (λ x. below (s, v) (pair_of x) ≡ true)) (sym split) (first, above_rest (s, v) e (drop (at + 1) xs) first over)
 
     pub held_there : same (s, v) (pair_of e) ≡ true → holds (s, v) (folders_of xs) ≡ true
     held_there t = held_are (s, v) xs h ∙ has_pair_at (s, v) xs at e l (subst (λ (x : Entry). same (s, v) (pair_of x) ≡ true) is t)

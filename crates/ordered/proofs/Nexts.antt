@@ -1,6 +1,6 @@
 -- Which pair is the first above a given one.
 use Rattle.std.proofs.Common.{◌≡◌, ℕ, ◌+◌, ◌<◌, ◌≤◌, true, false, cond, List, [], ◌∷◌, ◌++◌, length, get_or, take, drop, Some, None, Option, sym, refl, ap, ◌∙◌, subst, ⊎_elim}
-use Rattle.std.specs.List.{AllByRecursion as All}
+use Rattle.std.specs.List.{AllByRecursion}
 use Rattle.std.proofs.ByRecursion.{All-weaker}
 use Rattle.std.proofs.lemmas.List.{take-append-drop, drop_all, drop_more}
 use Rattle.std.proofs.lemmas.Bool.{both_ways, and_parts, or_cases}
@@ -17,18 +17,18 @@ skip : (p : Pair) (s v : ℕ) (o : Option Row) (xs : List Entry) → below p (s,
 skip p s v None xs h = ap (λ b. cond b (Some (s, v)) (next_pair p (folders_of xs))) h
 skip p s v (Some r) xs h = refl
 
-skips : (p : Pair) (xs ys : List Entry) → All (λ e. below p (pair_of e) ≡ false) xs → next_pair p (folders_of (xs ++ ys)) ≡ next_pair p (folders_of ys)
+skips : (p : Pair) (xs ys : List Entry) → AllByRecursion (λ e. below p (pair_of e) ≡ false) xs → next_pair p (folders_of (xs ++ ys)) ≡ next_pair p (folders_of ys)
 skips p [] ys h = refl
 skips p (x ∷ xs) ys h = skip p x.system x.view x.row (xs ++ ys) h.0 ∙ skips p xs ys h.1
 
 -- the first entry above the pair is a folder's own
-folder_from : (p : Pair) (a : Entry) (fs : List Entry) (e : Entry) (bs : List Entry) → below p (pair_of a) ≡ false → All (λ x. below p (pair_of x) ≡ false) fs → below p (pair_of e) ≡ true → in_order_from a (fs ++ e ∷ bs) ≡ true → is_folder e.row ≡ true
+folder_from : (p : Pair) (a : Entry) (fs : List Entry) (e : Entry) (bs : List Entry) → below p (pair_of a) ≡ false → AllByRecursion (λ x. below p (pair_of x) ≡ false) fs → below p (pair_of e) ≡ true → in_order_from a (fs ++ e ∷ bs) ≡ true → is_folder e.row ≡ true
 folder_from p a [] e bs n all b h =
     ⊎_elim (λ t. t) (λ t. absurd (both_ways (below p (pair_of a)) n (ap (below p) (sym (same_is (pair_of e) (pair_of a) t)) ∙ b)))
     (or_cases (is_folder e.row) (same (pair_of e) (pair_of a)) (behind_pair a e bs h))
 folder_from p a (x ∷ fs) e bs n all b h = folder_from p x fs e bs all.0 all.1 b (behind_rest a x (fs ++ e ∷ bs) h)
 
-folder_first : (p : Pair) (fs : List Entry) (e : Entry) (bs : List Entry) → All (λ x. below p (pair_of x) ≡ false) fs → below p (pair_of e) ≡ true → in_order (fs ++ e ∷ bs) ≡ true → is_folder e.row ≡ true
+folder_first : (p : Pair) (fs : List Entry) (e : Entry) (bs : List Entry) → AllByRecursion (λ x. below p (pair_of x) ≡ false) fs → below p (pair_of e) ≡ true → in_order (fs ++ e ∷ bs) ≡ true → is_folder e.row ≡ true
 folder_first p [] e bs all b h = (and_parts (is_folder e.row) (in_order_from e bs) h).0
 folder_first p (a ∷ fs) e bs all b h = folder_from p a fs e bs all.0 all.1 b (and_parts (is_folder a.row) (in_order_from a (fs ++ e ∷ bs)) h).1
 
@@ -36,8 +36,8 @@ here : (p : Pair) (s v : ℕ) (o : Option Row) (xs : List Entry) → is_folder o
 here p s v None xs f b = sym (ap (λ t. cond t (Some (s, v)) (next_pair p (folders_of xs))) b)
 here p s v (Some r) xs f b = absurd (both_ways false refl f)
 
-module _ (p : Pair) (xs : List Entry) (at : ℕ) (h : in_order xs ≡ true) (before : All (Before (key_at p 11 0)) (take at xs)) (behind : All (NotBefore (key_at p 11 0)) (drop at xs)) where
-  upto : All (λ e. below p (pair_of e) ≡ false) (take at xs)
+module _ (p : Pair) (xs : List Entry) (at : ℕ) (h : in_order xs ≡ true) (before : AllByRecursion (Before (key_at p 11 0)) (take at xs)) (behind : AllByRecursion (NotBefore (key_at p 11 0)) (drop at xs)) where
+  upto : AllByRecursion (λ e. below p (pair_of e) ≡ false) (take at xs)
   upto = All-weaker (Before (key_at p 11 0)) (λ e. below p (pair_of e) ≡ false) (λ e u. upto_pair p e u) (take at xs) before
 
   past : next_pair p (folders_of xs) ≡ next_pair p (folders_of (drop at xs))
@@ -49,7 +49,7 @@ module _ (p : Pair) (xs : List Entry) (at : ℕ) (h : in_order xs ≡ true) (bef
   pub next_some : at < length xs → (e : Entry) → e ≡ get_or xs at e → Some (pair_of e) ≡ next_pair p (folders_of xs)
   next_some l e is =
       let split : drop at xs ≡ e ∷ drop (at + 1) xs = drop_more xs at e l ∙ ap (λ x. x ∷ drop (at + 1) xs) (sym is) in
-      let above : below p (pair_of e) ≡ true = past_pair p e (subst (All (NotBefore (key_at p 11 0))) split behind).0 in
+      let above : below p (pair_of e) ≡ true = past_pair p e (subst (AllByRecursion (NotBefore (key_at p 11 0))) split behind).0 in
       let own : is_folder e.row ≡ true = folder_first p (take at xs) e (drop (at + 1) xs) upto above (ap in_order (ap (λ r. take at xs ++ r) (sym split) ∙ take-append-drop at xs) ∙ h) in
       here p e.system e.view e.row (drop (at + 1) xs) own above
       ∙ sym (past ∙ ap (λ r. next_pair p (folders_of r)) split)

@@ -1,6 +1,6 @@
 -- The rows of a pair and a kind stand together.
 use Rattle.std.proofs.Common.{◌≡◌, ℕ, zero, suc, ◌+◌, ◌-◌, ◌<◌, ◌≤◌, Bool, true, false, cond, ◌&&◌, List, [], ◌∷◌, ◌++◌, length, get_or, take, drop, Some, None, Option, sym, refl, ap, ◌∙◌, subst, arith}
-use Rattle.std.specs.List.{slice_get, AllByRecursion as All}
+use Rattle.std.specs.List.{slice_get, AllByRecursion}
 use Rattle.std.proofs.ByRecursion.{All-weaker, All-take}
 use Rattle.std.proofs.lemmas.List.{append-nil, length-take-le, length-drop, take-append-drop, take_rest, get_or-take, get_or-drop}
 use Rattle.std.proofs.lemmas.Option.{slice_get_past}
@@ -29,7 +29,7 @@ outside : (here : Bool) (k : Kind) (o : Option Row) (rs : List Row) → (here &&
 outside here k None rs h = refl
 outside here k (Some r) rs h = ap (λ b. cond b (r ∷ rs) rs) h
 
-pub none_in : (p : Pair) (k : Kind) (xs : List Entry) → All (λ e. in_part p k e ≡ false) xs → rows_in p k xs ≡ []
+pub none_in : (p : Pair) (k : Kind) (xs : List Entry) → AllByRecursion (λ e. in_part p k e ≡ false) xs → rows_in p k xs ≡ []
 none_in p k [] h = refl
 none_in p k (x ∷ xs) h = outside (same p (pair_of x)) k x.row (rows_in p k xs) h.0 ∙ none_in p k xs h.1
 
@@ -37,7 +37,7 @@ inside_length : (here : Bool) (k : Kind) (o : Option Row) (rs : List Row) → (h
 inside_length here k None rs h = absurd (both_ways false refl (and_parts here false h).1)
 inside_length here k (Some r) rs h = ap (λ b. length (cond b (r ∷ rs) rs)) h
 
-pub all_in_length : (p : Pair) (k : Kind) (xs : List Entry) → All (λ e. in_part p k e ≡ true) xs → length (rows_in p k xs) ≡ length xs
+pub all_in_length : (p : Pair) (k : Kind) (xs : List Entry) → AllByRecursion (λ e. in_part p k e ≡ true) xs → length (rows_in p k xs) ≡ length xs
 all_in_length p k [] h = refl
 all_in_length p k (x ∷ xs) h = inside_length (same p (pair_of x)) k x.row (rows_in p k xs) h.0 ∙ ap suc (all_in_length p k xs h.1)
 
@@ -49,12 +49,12 @@ inside_rest : (here : Bool) (k : Kind) (o : Option Row) (rs : List Row) (i : ℕ
 inside_rest here k None rs i h = absurd (both_ways false refl (and_parts here false h).1)
 inside_rest here k (Some r) rs i h = ap (λ b. slice_get (cond b (r ∷ rs) rs) (suc i)) h
 
-pub all_in_nth : (p : Pair) (k : Kind) (xs : List Entry) (i : ℕ) (d : Entry) → All (λ e. in_part p k e ≡ true) xs → i < length xs → slice_get (rows_in p k xs) i ≡ (get_or xs i d).row
+pub all_in_nth : (p : Pair) (k : Kind) (xs : List Entry) (i : ℕ) (d : Entry) → AllByRecursion (λ e. in_part p k e ≡ true) xs → i < length xs → slice_get (rows_in p k xs) i ≡ (get_or xs i d).row
 all_in_nth p k [] i d h l = absurd (omega arith)
 all_in_nth p k (x ∷ xs) zero d h l = inside_first (same p (pair_of x)) k x.row (rows_in p k xs) h.0
 all_in_nth p k (x ∷ xs) (suc i) d h l = inside_rest (same p (pair_of x)) k x.row (rows_in p k xs) i h.0 ∙ all_in_nth p k xs i d h.1 (omega arith)
 
-both_all : {X : Type 0} (P Q R : X → Type 0) → ((x : X) → P x → Q x → R x) → (xs : List X) → All P xs → All Q xs → All R xs
+both_all : {X : Type 0} (P Q R : X → Type 0) → ((x : X) → P x → Q x → R x) → (xs : List X) → AllByRecursion P xs → AllByRecursion Q xs → AllByRecursion R xs
 both_all P Q R f [] a b = tt
 both_all P Q R f (x ∷ xs) a b = (f x a.0 b.0, both_all P Q R f xs a.1 b.1)
 
@@ -62,10 +62,10 @@ module _ (p : Pair) (k : Kind) (day : ℕ) (xs : List Entry) (from count : ℕ) 
   abbrev pub mid : List Entry
   mid = take count (drop from xs)
 
-  pub part_all : All (λ e. in_part p k e ≡ true) mid
+  pub part_all : AllByRecursion (λ e. in_part p k e ≡ true) mid
   part_all = both_all (NotBefore (key_at p (suc (rank_of k)) day)) (Before (key_at p (suc (suc (rank_of k))) 0)) (λ e. in_part p k e ≡ true) (λ e g h. (within_part p k e day g h).0) mid part.among part.upto
 
-  pub part_late : All (λ e. day ≤ start_in e.row) mid
+  pub part_late : AllByRecursion (λ e. day ≤ start_in e.row) mid
   part_late = both_all (NotBefore (key_at p (suc (rank_of k)) day)) (Before (key_at p (suc (suc (rank_of k))) 0)) (λ e. day ≤ start_in e.row) (λ e g h. (within_part p k e day g h).1) mid part.among part.upto
 
   pub none_behind_part : rows_in p k (drop count (drop from xs)) ≡ []
@@ -108,14 +108,14 @@ module _ (p : Pair) (k : Kind) (xs : List Entry) (from count : ℕ) (part : Part
     read_none i l = sym (slice_get_past (rows_of p (folders_of xs) k) i (omega (arith, count_is)))
 
 -- what two searches find: the part's first place, and behind it how many
-pub parted : (p : Pair) (k : Kind) (day : ℕ) (xs : List Entry) (from count level : ℕ) → level ≡ suc (rank_of k) → from ≤ length xs → All (Before (key_at p level day)) (take from xs) → All (NotBefore (key_at p level day)) (drop from xs) → count ≤ length (take (length xs - from) (drop from xs)) → All (Before (key_at p (level + 1) 0)) (take count (take (length xs - from) (drop from xs))) → All (NotBefore (key_at p (level + 1) 0)) (drop count (take (length xs - from) (drop from xs))) → Part p k day xs from count
+pub parted : (p : Pair) (k : Kind) (day : ℕ) (xs : List Entry) (from count level : ℕ) → level ≡ suc (rank_of k) → from ≤ length xs → AllByRecursion (Before (key_at p level day)) (take from xs) → AllByRecursion (NotBefore (key_at p level day)) (drop from xs) → count ≤ length (take (length xs - from) (drop from xs)) → AllByRecursion (Before (key_at p (level + 1) 0)) (take count (take (length xs - from) (drop from xs))) → AllByRecursion (NotBefore (key_at p (level + 1) 0)) (drop count (take (length xs - from) (drop from xs))) → Part p k day xs from count
 parted p k day xs from count level e within before behind few upto past =
     let rest = take_rest xs from in
     let next : level + 1 ≡ suc (suc (rank_of k)) = omega arith in
     record {
       within = omega (arith, few, ap length rest, length-drop from xs);
-      before = subst (λ (n : ℕ). All (Before (key_at p n day)) (take from xs)) e before;
-      among = All-take (NotBefore (key_at p (suc (rank_of k)) day)) count (drop from xs) (subst (λ (n : ℕ). All (NotBefore (key_at p n day)) (drop from xs)) e behind);
-      upto = subst (λ (n : ℕ). All (Before (key_at p n 0)) (take count (drop from xs))) next (subst (λ (l : List Entry). All (Before (key_at p (level + 1) 0)) (take count l)) rest upto);
-      behind = subst (λ (n : ℕ). All (NotBefore (key_at p n 0)) (drop count (drop from xs))) next (subst (λ (l : List Entry). All (NotBefore (key_at p (level + 1) 0)) (drop count l)) rest past);
+      before = subst (λ (n : ℕ). AllByRecursion (Before (key_at p n day)) (take from xs)) e before;
+      among = All-take (NotBefore (key_at p (suc (rank_of k)) day)) count (drop from xs) (subst (λ (n : ℕ). AllByRecursion (NotBefore (key_at p n day)) (drop from xs)) e behind);
+      upto = subst (λ (n : ℕ). AllByRecursion (Before (key_at p n 0)) (take count (drop from xs))) next (subst (λ (l : List Entry). AllByRecursion (Before (key_at p (level + 1) 0)) (take count l)) rest upto);
+      behind = subst (λ (n : ℕ). AllByRecursion (NotBefore (key_at p n 0)) (drop count (drop from xs))) next (subst (λ (l : List Entry). AllByRecursion (NotBefore (key_at p (level + 1) 0)) (drop count l)) rest past);
     }

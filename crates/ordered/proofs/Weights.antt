@@ -1,6 +1,6 @@
 -- How many entries some folders take.
 use Rattle.std.proofs.Common.{◌≡◌, ℕ, zero, suc, ◌+◌, ◌*◌, ◌<◌, ◌≤◌, Bool, true, false, cond, ◌&&◌, ◌||◌, List, [], ◌∷◌, length, get_or, Some, None, sum_by, Option, sym, refl, ap, ◌∙◌, subst, ⊎_elim, arith}
-use Rattle.std.specs.List.{AllByRecursion as All}
+use Rattle.std.specs.List.{AllByRecursion}
 use Rattle.std.proofs.lemmas.List.Sums.{sum_by-cons}
 use Rattle.std.proofs.lemmas.Bool.{both_ways, cases_Bool}
 use Rattle.register.specs.Folders.{Pair, Rows, Folder, same, rows_of, holds}
@@ -73,11 +73,11 @@ module _ (f : Folder) (few : FewIn f) where
       let less = sum_less kinds (rank_of k) Registration (omega (arith, rank_most k)) (subst (λ (l : Kind). length (f.rows l) < maximum_of l) (sym (rank_back k)) h) in
       omega (arith, less)
 
-weight_most : (fs : List Folder) → All FewIn fs → weight fs ≤ per_folder * length fs
+weight_most : (fs : List Folder) → AllByRecursion FewIn fs → weight fs ≤ per_folder * length fs
 weight_most [] few = omega arith
 weight_most (f ∷ fs) few = omega (arith, size_most f few.0, weight_most fs few.1)
 
-weight_less : (p : Pair) (k : Kind) (fs : List Folder) → All FewIn fs → holds p fs ≡ true → length (rows_of p fs k) < maximum_of k → weight fs < per_folder * length fs
+weight_less : (p : Pair) (k : Kind) (fs : List Folder) → AllByRecursion FewIn fs → holds p fs ≡ true → length (rows_of p fs k) < maximum_of k → weight fs < per_folder * length fs
 weight_less p k [] few h l = absurd (both_ways false refl h)
 weight_less p k (f ∷ fs) few h l =
     ⊎_elim
@@ -90,7 +90,7 @@ weight_less p k (f ∷ fs) few h l =
     (cases_Bool (same p f.pair))
 
 module _ (xs : List Entry) (h : in_order xs ≡ true) (few : Few xs) where
-  each : All FewIn (folders_of xs)
+  each : AllByRecursion FewIn (folders_of xs)
   each = few_each (folders_of xs) (rising xs h) few
 
   pub length_most : length xs ≤ per_folder * length (folders_of xs)

@@ -1,6 +1,6 @@
 -- What the used entries mean: the folders that they are.
 use Rattle.std.specs.Prelude.{◌≡◌, ℕ, suc, ◌+◌, ◌*◌, ◌≤◌, Bool, true, false, cond, ◌&&◌, ◌||◌, List, [], ◌∷◌, length, take, drop, Some, None, sum_by, Option}
-use Rattle.std.specs.List.{insert, AllByRecursion as All}
+use Rattle.std.specs.List.{insert, AllByRecursion}
 use Rattle.register.specs.Folders.{Pair, Rows, Folder, same, same_kind, no_rows, rows_of}
 use Rattle.rows.specs.Kinds.{kinds, rank_of, maximum_of}
 use Rattle.rows.specs.Rows.{kind_of_row}
@@ -60,7 +60,7 @@ per_folder = suc (sum_by maximum_of kinds)
 
 -- of any two entries the later is above
 abbrev pub Over : Entry → List Entry → Type 0
-Over e xs = All (λ x. lower (key_of e) (key_of x) ≡ true) xs
+Over e xs = AllByRecursion (λ x. lower (key_of e) (key_of x) ≡ true) xs
 
 abbrev pub Ascends : List Entry → Type 0
 Ascends [] = Unit {0}
@@ -69,10 +69,10 @@ Ascends (x ∷ xs) = Over x xs × Ascends xs
 -- where the rows of a pair and a kind stand that start on or after a day: so many, from a place on
 pub record Part (pair : Pair) (kind : Kind) (day : ℕ) (es : List Entry) (from count : ℕ) : Type 0 where
   pub within : from + count ≤ length es
-  pub before : All (Before (key_at pair (suc (rank_of kind)) day)) (take from es)
-  pub among : All (NotBefore (key_at pair (suc (rank_of kind)) day)) (take count (drop from es))
-  pub upto : All (Before (key_at pair (suc (suc (rank_of kind))) 0)) (take count (drop from es))
-  pub behind : All (NotBefore (key_at pair (suc (suc (rank_of kind))) 0)) (drop count (drop from es))
+  pub before : AllByRecursion (Before (key_at pair (suc (rank_of kind)) day)) (take from es)
+  pub among : AllByRecursion (NotBefore (key_at pair (suc (rank_of kind)) day)) (take count (drop from es))
+  pub upto : AllByRecursion (Before (key_at pair (suc (suc (rank_of kind))) 0)) (take count (drop from es))
+  pub behind : AllByRecursion (NotBefore (key_at pair (suc (suc (rank_of kind))) 0)) (drop count (drop from es))
 
 -- with an entry put in at a place the entries are still in order, and are then these folders
 pub record Put (x : Entry) (es : List Entry) (at : ℕ) (after : List Folder) : Type 0 where

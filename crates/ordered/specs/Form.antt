@@ -1,7 +1,7 @@
 -- Entries in order are folders in form: the lemmas of a register's own promise.
 use Rattle.std.specs.Prelude.{◌≡◌, ℕ, zero, suc, ◌<◌, ◌≤◌, Bool, true, cond, List, [], ◌∷◌, map, length, Some, None, Option, nat_lt, refl}
 use Rattle.std.proofs.Common.{sym, ap, subst, ◌∙◌, ⊎_elim, arith}
-use Rattle.std.specs.List.{AllByRecursion as All}
+use Rattle.std.specs.List.{AllByRecursion}
 use Rattle.std.proofs.ByRecursion.{All-weaker, All-get_or}
 use Rattle.std.proofs.lemmas.List.{length-map, get_or-map}
 use Rattle.std.proofs.lemmas.Bool.{cond_both, cases_Bool, and_parts, eqb-true, ltb-true}
@@ -41,19 +41,19 @@ rising [] h = tt
 rising (e ∷ es) h = let b = (and_parts (is_folder e.row) (in_order_from e es) h).1 in rising_step e.system e.view e.row es (pairs_above e es b) (rising_from e es b)
 
 -- the rows of a kind are of that kind
-kinds_step : (k : Kind) (o : Option Row) (rows : Rows) → All (λ r. kind_of_row r ≡ k) (rows k) → All (λ r. kind_of_row r ≡ k) (led o rows k)
+kinds_step : (k : Kind) (o : Option Row) (rows : Rows) → AllByRecursion (λ r. kind_of_row r ≡ k) (rows k) → AllByRecursion (λ r. kind_of_row r ≡ k) (led o rows k)
 kinds_step k None rows h = tt
 kinds_step k (Some r) rows h =
-    cond_both (same_kind k (kind_of_row r)) (r ∷ rows k) (rows k) (All (λ q. kind_of_row q ≡ k))
+    cond_both (same_kind k (kind_of_row r)) (r ∷ rows k) (rows k) (AllByRecursion (λ q. kind_of_row q ≡ k))
     (λ e. (sym (same_kind_lem k (kind_of_row r) e), h)) (λ _. h)
 
-kinds_in : (k : Kind) (xs : List Entry) → All (λ r. kind_of_row r ≡ k) (leading xs k)
+kinds_in : (k : Kind) (xs : List Entry) → AllByRecursion (λ r. kind_of_row r ≡ k) (leading xs k)
 kinds_in k [] = tt
 kinds_in k (x ∷ xs) = kinds_step k x.row (leading xs) (kinds_in k xs)
 
 -- they are further within the folder than what stands before them
 abbrev Further : ℕ → ℕ → Kind → List Row → Type 0
-Further level start k rs = All (λ r. inner level start (suc (rank_of k)) (start_of_row r) ≡ true) rs
+Further level start k rs = AllByRecursion (λ r. inner level start (suc (rank_of k)) (start_of_row r) ≡ true) rs
 
 further_onward : (a s b t : ℕ) (k : Kind) (rs : List Row) → inner a s b t ≡ true → Further b t k rs → Further a s k rs
 further_onward a s b t k rs h =
@@ -78,7 +78,7 @@ further_in e k (x ∷ xs) h = further_row e x.system x.view k x.row xs h (furthe
 -- so their starts ascend
 abbrev Up : List Row → Type 0
 Up [] = Unit {0}
-Up (r ∷ rs) = All (λ q. start_of_row r < start_of_row q) rs × Up rs
+Up (r ∷ rs) = AllByRecursion (λ q. start_of_row r < start_of_row q) rs × Up rs
 
 later : (a b s t : ℕ) → a ≡ b → inner (suc b) s (suc a) t ≡ true → s < t
 later a b s t e h = ⊎_elim (λ l. absurd (omega arith)) (λ r. ltb-true s t r.1) (earlier_read (suc b) (suc a) (nat_lt s t) h)
@@ -117,7 +117,7 @@ rows_above p k (f ∷ fs) a =
 abbrev pub FewIn : Folder → Type 0
 FewIn f = (k : Kind) → length (f.rows k) ≤ maximum_of k
 
-pub few_each : (fs : List Folder) → Rising fs → ((p : Pair) (k : Kind) → length (rows_of p fs k) ≤ maximum_of k) → All FewIn fs
+pub few_each : (fs : List Folder) → Rising fs → ((p : Pair) (k : Kind) → length (rows_of p fs k) ≤ maximum_of k) → AllByRecursion FewIn fs
 few_each [] r h = tt
 few_each (f ∷ fs) r h = (
   λ k. subst (λ (b : Bool). length (cond b f.rows (rows_of f.pair fs) k) ≤ maximum_of k) (is_same f.pair f.pair refl) (h f.pair k),
@@ -129,18 +129,18 @@ few_each (f ∷ fs) r h = (
       (cases_Bool (same p f.pair))),
 )
 
-form_step : (s v : ℕ) (o : Option Row) (xs : List Entry) → in_order_from (entry s v o) xs ≡ true → All FewIn (folders_of (entry s v o ∷ xs)) → (All FewIn (folders_of xs) → All FolderInForm (folders_of xs)) → All FolderInForm (folders_of (entry s v o ∷ xs))
+form_step : (s v : ℕ) (o : Option Row) (xs : List Entry) → in_order_from (entry s v o) xs ≡ true → AllByRecursion FewIn (folders_of (entry s v o ∷ xs)) → (AllByRecursion FewIn (folders_of xs) → AllByRecursion FolderInForm (folders_of xs)) → AllByRecursion FolderInForm (folders_of (entry s v o ∷ xs))
 form_step s v None xs h few on = (
   λ k. record { kinds = kinds_in k xs; starts = starts (leading xs k) (up_in (entry s v None) k xs h); few = few.0 k },
   on few.1,
 )
 form_step s v (Some r) xs h few on = on few
 
-form_from : (e : Entry) (xs : List Entry) → in_order_from e xs ≡ true → All FewIn (folders_of xs) → All FolderInForm (folders_of xs)
+form_from : (e : Entry) (xs : List Entry) → in_order_from e xs ≡ true → AllByRecursion FewIn (folders_of xs) → AllByRecursion FolderInForm (folders_of xs)
 form_from e [] h few = tt
 form_from e (x ∷ xs) h few = let b = behind_rest e x xs h in form_step x.system x.view x.row xs b few (form_from x xs b)
 
-form_in : (xs : List Entry) → in_order xs ≡ true → All FewIn (folders_of xs) → All FolderInForm (folders_of xs)
+form_in : (xs : List Entry) → in_order xs ≡ true → AllByRecursion FewIn (folders_of xs) → AllByRecursion FolderInForm (folders_of xs)
 form_in [] h few = tt
 form_in (e ∷ es) h few = let b = (and_parts (is_folder e.row) (in_order_from e es) h).1 in form_step e.system e.view e.row es b few (form_from e es b)
 

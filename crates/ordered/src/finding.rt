@@ -1,6 +1,6 @@
 // Where keys stand among entries that are in order.
 ghost use Rattle.std.specs.Prelude.{◌≡◌, ◌≤◌, true, length, take, drop};
-ghost use Rattle.std.specs.List.{slice_get, AllByRecursion as All};
+ghost use Rattle.std.specs.List.{slice_get, AllByRecursion};
 ghost use Rattle.register.specs.Folders.{rows_of, next_pair};
 ghost use Rattle.ordered.specs.Entries.{in_order, folders_of, Ascends, Part};
 ghost use Rattle.ordered.specs.Keys.{Before, NotBefore};
@@ -13,8 +13,8 @@ use rows::row::Row;
 pub(crate) fn locate(entries: &[Entry], key: Key) -> usize
     requires { Ascends entries.now }
     ensures within { result ≤ length entries.now }
-    ensures before { All (Before key) (take result entries.now) }
-    ensures behind { All (NotBefore key) (drop result entries.now) }
+    ensures before { AllByRecursion (Before key) (take result entries.now) }
+    ensures behind { AllByRecursion (NotBefore key) (drop result entries.now) }
 {
     let mut low = 0;
     let mut high = entries.len();

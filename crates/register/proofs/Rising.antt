@@ -1,6 +1,6 @@
 -- Folders that ascend by pair, each against all that follow it.
 use Rattle.std.proofs.Common.{◌≡◌, zero, suc, true, false, cond, ◌||◌, List, [], ◌∷◌, get_or, sym, refl, ap, ◌∙◌, arith}
-use Rattle.std.specs.List.{AllByRecursion as All}
+use Rattle.std.specs.List.{AllByRecursion}
 use Rattle.std.proofs.ByRecursion.{All-weaker, All-get_or, All-from_get_or}
 use Rattle.std.proofs.lemmas.Bool.{cond_both, both_ways}
 use Rattle.register.specs.Folders.{Pair, Folder, below, same, no_rows, holds, made, PairsAscend}
@@ -8,7 +8,7 @@ use Rattle.register.proofs.Pairs.{below_decides, below_trans, below_not_same}
 
 -- a pair is below all of these folders
 abbrev pub Under : Pair → List Folder → Type 0
-Under p fs = All (λ f. below p f.pair ≡ true) fs
+Under p fs = AllByRecursion (λ f. below p f.pair ≡ true) fs
 
 -- each folder's pair is below all that follow
 abbrev pub Rising : List Folder → Type 0

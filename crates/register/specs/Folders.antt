@@ -1,6 +1,6 @@
 -- What a register means: its folders, ascending by pair, each with the rows of each kind.
 use Rattle.std.specs.Prelude.{◌≡◌, ℕ, ◌<◌, ◌≤◌, Bool, true, false, cond, ◌&&◌, ◌||◌, ◌⊎◌, List, [], ◌∷◌, ◌++◌, map, length, take, Some, None, Option, ◌==◌, nat_lt, slice_index_or}
-use Rattle.std.specs.List.{AllByRecursion as All}
+use Rattle.std.specs.List.{AllByRecursion}
 use Rattle.fields.specs.Ascent.{Ascending}
 use Rattle.rows.specs.Kinds.{rank_of, maximum_of}
 use Rattle.rows.specs.Rows.{kind_of_row, start_of_row}
@@ -103,7 +103,7 @@ PairsAscend fs = (i j : ℕ) (d : Folder) → i < j → j < length fs → Below 
 
 -- the rows of a kind are of that kind, their starts ascend, and they do not pass the kind's maximum
 pub record KindInForm (kind : Kind) (rs : List Row) : Type 0 where
-  pub kinds : All (λ r. kind_of_row r ≡ kind) rs
+  pub kinds : AllByRecursion (λ r. kind_of_row r ≡ kind) rs
   pub starts : Ascending (map start_of_row rs)
   pub few : length rs ≤ maximum_of kind
 
@@ -116,6 +116,6 @@ Systems fs = (i : ℕ) (d : Folder) → i < length fs → Numbered (slice_index_
 
 pub record InForm (places : ℕ) (fs : List Folder) : Type 0 where
   pub ascend : PairsAscend fs
-  pub systems : All (λ f. Numbered f.pair.0) fs
-  pub folders : All FolderInForm fs
+  pub systems : AllByRecursion (λ f. Numbered f.pair.0) fs
+  pub folders : AllByRecursion FolderInForm fs
   pub room : length fs ≤ places

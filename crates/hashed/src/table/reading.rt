@@ -1,6 +1,6 @@
 // Folders that are found and read.
 ghost use Rattle.std.specs.Prelude.{◌≡◌, ◌≤◌, true, false, map, length, take, drop};
-ghost use Rattle.std.specs.List.{slice_get, AllByRecursion as All};
+ghost use Rattle.std.specs.List.{slice_get, AllByRecursion};
 ghost use Rattle.register.specs.Folders.{below, rows_of, next_pair};
 ghost use Rattle.hashed.specs.Memory.{SoundTable, table_folders};
 ghost use Rattle.hashed.specs.Table.{folders_of, pair_at, seek};
@@ -32,8 +32,8 @@ impl<'a> Table<'a> {
     pub(crate) fn locate(&self, system: u64, view: u16) -> usize
         requires { SoundTable self.now }
         ensures within { result ≤ self.now.count }
-        ensures before { All (λ q. below (system, view) q ≡ false) (take result (map (pair_at (folders_of self.now.blocks.now)) (take self.now.count self.now.order.now))) }
-        ensures behind { All (λ q. below (system, view) q ≡ true) (drop result (map (pair_at (folders_of self.now.blocks.now)) (take self.now.count self.now.order.now))) }
+        ensures before { AllByRecursion (λ q. below (system, view) q ≡ false) (take result (map (pair_at (folders_of self.now.blocks.now)) (take self.now.count self.now.order.now))) }
+        ensures behind { AllByRecursion (λ q. below (system, view) q ≡ true) (drop result (map (pair_at (folders_of self.now.blocks.now)) (take self.now.count self.now.order.now))) }
     {
         orders::locate(self.blocks, self.order, self.count, system, view)
     }

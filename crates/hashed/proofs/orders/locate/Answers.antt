@@ -1,5 +1,5 @@
 use Rattle.std.proofs.Common.{◌≡◌, ℕ, ◌+◌, ◌-◌, ◌/◌, true, drop, sym, subst, arith}
-use Rattle.std.specs.List.{AllByRecursion as All}
+use Rattle.std.specs.List.{AllByRecursion}
 use Rattle.std.proofs.lemmas.List.{drop_all}
 use Rattle.register.specs.Folders.{below}
 use Rattle.hashed.specs.Table.{folders_of}
@@ -10,7 +10,7 @@ pub loop-low-init : goal.loop-low-init
 loop-low-init c =
     let fs = folders_of c.args.blocks.now in
     let ks = keys fs c.args.order.now c.args.count in
-    (omega arith, omega arith, tt, subst (All (λ q. below (c.args.system, c.args.view) q ≡ true)) (sym (drop_all c.args.count ks (omega (arith, long fs c.args.order.now c.args.count c.requires.listed c.requires.ordered)))) tt)
+    (omega arith, omega arith, tt, subst (AllByRecursion (λ q. below (c.args.system, c.args.view) q ≡ true)) (sym (drop_all c.args.count ks (omega (arith, long fs c.args.order.now c.args.count c.requires.listed c.requires.ordered)))) tt)
 
 pub is_after-requires : goal.is_after-requires
 is_after-requires c = omega (arith, c.requires.ordered.inside (c.loop-low.low + (c.loop-low.high - c.loop-low.low) / 2) (omega arith))
@@ -31,5 +31,5 @@ returns c =
     record {
       within = omega arith;
       before = c.loop-low.invariant.2;
-      behind = subst (λ (n : ℕ). All (λ q. below (c.args.system, c.args.view) q ≡ true) (drop n (keys (folders_of c.args.blocks.now) c.args.order.now c.args.count))) e c.loop-low.invariant.3;
+      behind = subst (λ (n : ℕ). AllByRecursion (λ q. below (c.args.system, c.args.view) q ≡ true) (drop n (keys (folders_of c.args.blocks.now) c.args.order.now c.args.count))) e c.loop-low.invariant.3;
     }

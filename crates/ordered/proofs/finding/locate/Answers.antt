@@ -1,5 +1,5 @@
 use Rattle.std.proofs.Common.{◌≡◌, ℕ, ◌+◌, ◌-◌, ◌/◌, drop, sym, ap, ◌∙◌, subst, arith}
-use Rattle.std.specs.List.{AllByRecursion as All}
+use Rattle.std.specs.List.{AllByRecursion}
 use Rattle.ordered.specs.Keys.{lower, Before, NotBefore}
 use Rattle.ordered.proofs.Halves.{turn_up, turn_down, none_behind}
 use Rattle.ordered.proofs.finding.locate.Goals as goal
@@ -35,5 +35,5 @@ returns c =
     record {
       within = omega arith;
       before = c.loop-low.invariant.2;
-      behind = subst (λ (n : ℕ). All (NotBefore c.args.key) (drop n c.args.entries.now)) e c.loop-low.invariant.3;
+      behind = subst (λ (n : ℕ). AllByRecursion (NotBefore c.args.key) (drop n c.args.entries.now)) e c.loop-low.invariant.3;
     }

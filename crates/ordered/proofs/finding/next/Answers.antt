@@ -1,5 +1,5 @@
 use Rattle.std.proofs.Common.{◌≡◌, ℕ, ◌+◌, take, drop, subst, arith}
-use Rattle.std.specs.List.{AllByRecursion as All}
+use Rattle.std.specs.List.{AllByRecursion}
 use Rattle.register.specs.Folders.{Pair}
 use Rattle.ordered.specs.Keys.{key_at, Before, NotBefore}
 use Rattle.ordered.proofs.Halves.{ascends}
@@ -16,8 +16,8 @@ returns-then-at-entries c =
     let at = c.locate-at.result in
     let level : c.level.result + 1 ≡ 11 = omega (arith, c.level.ensures) in
     next_none p xs at c.requires
-    (subst (λ (n : ℕ). All (Before (key_at p n 0)) (take at xs)) level c.locate-at.ensures.before)
-    (subst (λ (n : ℕ). All (NotBefore (key_at p n 0)) (drop at xs)) level c.locate-at.ensures.behind)
+    (subst (λ (n : ℕ). AllByRecursion (Before (key_at p n 0)) (take at xs)) level c.locate-at.ensures.before)
+    (subst (λ (n : ℕ). AllByRecursion (NotBefore (key_at p n 0)) (drop at xs)) level c.locate-at.ensures.behind)
     c.if-at-entries.true
 
 pub returns : goal.returns
@@ -27,6 +27,6 @@ returns c =
     let at = c.locate-at.result in
     let level : c.level.result + 1 ≡ 11 = omega (arith, c.level.ensures) in
     next_some p xs at c.requires
-    (subst (λ (n : ℕ). All (Before (key_at p n 0)) (take at xs)) level c.locate-at.ensures.before)
-    (subst (λ (n : ℕ). All (NotBefore (key_at p n 0)) (drop at xs)) level c.locate-at.ensures.behind)
+    (subst (λ (n : ℕ). AllByRecursion (Before (key_at p n 0)) (take at xs)) level c.locate-at.ensures.before)
+    (subst (λ (n : ℕ). AllByRecursion (NotBefore (key_at p n 0)) (drop at xs)) level c.locate-at.ensures.behind)
     c.if-at-entries.false c.index-entries-at.result c.index-entries-at.is
