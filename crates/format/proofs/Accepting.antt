@@ -1,6 +1,6 @@
 -- The reader accepts exactly the writings of well-formed files.
 use Rattle.std.proofs.Common.{◌≡◌, ℕ, List, [], ◌++◌, length, Some, None, Ok, Option, sym, refl, ap, ◌∙◌, subst, zero-add, arith}
-use Rattle.std.specs.List.{AllByRecursion as All}
+use Rattle.std.specs.List.{AllByRecursion}
 use Rattle.std.proofs.lemmas.List.{append-nil}
 use Rattle.commands.specs.declared.command.Command.{Command}
 use Rattle.instructions.specs.declared.faults.FileFault.{FileFault}
@@ -23,7 +23,7 @@ unfolding commands_from
 commands_end = refl
 
 -- the first fault behind commands that the reader comes through
-pub first_through : (cs : List Command) (rest : List ℕ) (end : Stage) → All InRange cs → run opening cs ≡ Some end → first_fault (all_bytes cs ++ rest) ≡ fault_from 0 (length (all_bytes cs)) end rest
+pub first_through : (cs : List Command) (rest : List ℕ) (end : Stage) → AllByRecursion InRange cs → run opening cs ≡ Some end → first_fault (all_bytes cs ++ rest) ≡ fault_from 0 (length (all_bytes cs)) end rest
 first_through cs rest end range reached = fault_through cs rest 0 opening end range reached ∙ ap (λ n. fault_from 0 n end rest) (zero-add (length (all_bytes cs)))
 
 -- the writing of a well-formed file has no fault

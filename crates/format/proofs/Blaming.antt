@@ -1,6 +1,6 @@
 -- What a fault says is so: what stands before its place is the front of a well-formed file, and the command there has that cause.
 use Rattle.std.proofs.Common.{◌≡◌, ℕ, zero, suc, List, [], ◌∷◌, ◌++◌, length, drop, replicate, Some, None, Err, Option, sym, refl, ap, ◌∙◌, subst, append_assoc, arith}
-use Rattle.std.specs.List.{AllByRecursion as All}
+use Rattle.std.specs.List.{AllByRecursion}
 use Rattle.std.proofs.ByRecursion.{All-append}
 use Rattle.std.proofs.lemmas.List.{append-nil, length-append, length-replicate, take_at, drop_at}
 use Rattle.commands.specs.declared.command.Command.{Command}
@@ -25,14 +25,14 @@ use Rattle.format.proofs.Steps.{never}
 -- from any stage some commands lead to the end of the file
 record Completed (stage : Stage) : Type 0 where
   pub commands : List Command
-  pub range : All InRange commands
+  pub range : AllByRecursion InRange commands
   pub reached : run stage commands ≡ Some closed
 
 -- an instruction with no records
 abbrev least : FileInstruction
 least = change (record { system = 1; number = 1; day = 1 }) []
 
-least_in_form : (n : ℕ) → All InstructionInForm (replicate n least)
+least_in_form : (n : ℕ) → AllByRecursion InstructionInForm (replicate n least)
 least_in_form zero = tt
 least_in_form (suc n) = ((record { system = omega arith; number = omega arith; day = omega arith }, tt, tt), least_in_form n)
 
@@ -65,7 +65,7 @@ due_short (within left before) place fault e = e
 due_short closed place fault e = absurd (never fault e)
 
 -- commands that the reader comes through
-module _ (cs : List Command) (range : All InRange cs) (end : Stage) (reached : run opening cs ≡ Some end) where
+module _ (cs : List Command) (range : AllByRecursion InRange cs) (end : Stage) (reached : run opening cs ≡ Some end) where
   front_of : Front (all_bytes cs)
   front_of =
       let c = completed end in

@@ -1,6 +1,6 @@
 -- Lists of commands and their bytes: the reader goes through what is written of a list, and any bytes are what is written of a list up to the first fault.
 use Rattle.std.proofs.Common.{◌≡◌, ℕ, zero, suc, ◌+◌, ◌<◌, ◌≤◌, List, [], ◌∷◌, ◌++◌, length, drop, Some, None, Ok, Err, Option, Result, sym, refl, ap, ◌∙◌, append_assoc, add-zero, arith}
-use Rattle.std.specs.List.{AllByRecursion as All}
+use Rattle.std.specs.List.{AllByRecursion}
 use Rattle.std.proofs.ByRecursion.{All-drop}
 use Rattle.std.proofs.lemmas.List.{drop_at, length-append, length-drop}
 use Rattle.commands.specs.declared.command.Command.{Command}
@@ -52,7 +52,7 @@ module _ (c : Command) (range : InRange c) (ys : List ℕ) where
       ∙ ap (λ zs. c ∷ commands_from 0 zs) (drop_at (command_bytes c) ys (width_of c) (command_length c))
 
 -- the reader comes through what is written of a list to the stage behind it
-pub fault_through : (cs : List Command) (rest : List ℕ) (place : ℕ) (stage end : Stage) → All InRange cs → run stage cs ≡ Some end → fault_from 0 place stage (all_bytes cs ++ rest) ≡ fault_from 0 (place + length (all_bytes cs)) end rest
+pub fault_through : (cs : List Command) (rest : List ℕ) (place : ℕ) (stage end : Stage) → AllByRecursion InRange cs → run stage cs ≡ Some end → fault_from 0 place stage (all_bytes cs ++ rest) ≡ fault_from 0 (place + length (all_bytes cs)) end rest
 unfolding all_bytes
 fault_through [] rest place stage end h e = let same : stage ≡ end = cc in ap (λ n. fault_from 0 n stage rest) (sym (add-zero place)) ∙ ap (λ s. fault_from 0 (place + 0) s rest) same
 fault_through (c ∷ cs) rest place stage end h e =
@@ -65,7 +65,7 @@ fault_through (c ∷ cs) rest place stage end h e =
     ∙ ap (λ k. fault_from 0 k end rest) p
 
 -- and has the commands of the list in front
-pub commands_through : (cs : List Command) (rest : List ℕ) → All InRange cs → commands_from 0 (all_bytes cs ++ rest) ≡ cs ++ commands_from 0 rest
+pub commands_through : (cs : List Command) (rest : List ℕ) → AllByRecursion InRange cs → commands_from 0 (all_bytes cs ++ rest) ≡ cs ++ commands_from 0 rest
 unfolding all_bytes
 commands_through [] rest h = refl
 commands_through (c ∷ cs) rest h =
@@ -85,7 +85,7 @@ pub record Parsed (stage : Stage) (xs : List ℕ) : Type 0 where
   pub rest : List ℕ
   pub end : Stage
   pub bytes : xs ≡ all_bytes commands ++ rest
-  pub range : All InRange commands
+  pub range : AllByRecursion InRange commands
   pub reached : run stage commands ≡ Some end
   pub stop : Stop end rest
 

@@ -1,6 +1,6 @@
 -- Files and their commands: those of a well-formed file lead from the opening to the end and say that file, and all that lead there are those of a well-formed file.
 use Rattle.std.proofs.Common.{◌≡◌, ℕ, suc, ◌-◌, Bool, true, false, cond, ◌&&◌, eqb, List, [], ◌∷◌, ◌++◌, map, length, Some, None, Option, sym, refl, ap, ◌∙◌, subst, arith}
-use Rattle.std.specs.List.{AllByRecursion as All}
+use Rattle.std.specs.List.{AllByRecursion}
 use Rattle.std.proofs.lemmas.Bool.{eqb-true, eqb-false, ne_eqb, and_parts, and_from, cond-false}
 use Rattle.rows.specs.declared.kinds.Kind.{Kind}
 use Rattle.rows.specs.declared.row.Row.{Row}
@@ -21,23 +21,23 @@ use Rattle.format.proofs.Steps.{given_is, never}
 abbrev row_commands : List Row → List Command → List Command
 row_commands rs rest = map (λ (r : Row). Record r) rs ++ InstructionEnd ∷ rest
 
-rows_in_range : (rs : List Row) (rest : List Command) → All RowInForm rs → All InRange rest → All InRange (row_commands rs rest)
+rows_in_range : (rs : List Row) (rest : List Command) → AllByRecursion RowInForm rs → AllByRecursion InRange rest → AllByRecursion InRange (row_commands rs rest)
 rows_in_range [] rest h k = (tt, k)
 rows_in_range (r ∷ rs) rest h k = (h.0.0, rows_in_range rs rest h.1 k)
 
-pub body_in_range : (is : List FileInstruction) → All InstructionInForm is → All InRange (body_commands is)
+pub body_in_range : (is : List FileInstruction) → AllByRecursion InstructionInForm is → AllByRecursion InRange (body_commands is)
 unfolding body_commands
 body_in_range [] h = (tt, tt)
 body_in_range (change g rs ∷ is) h = (h.0.0, rows_in_range rs (body_commands is) h.0.1 (body_in_range is h.1))
 
-rows_run : (rs : List Row) (rest : List Command) (left : ℕ) (before : Option (Kind × ℕ)) → All RowInForm rs → Follows before rs → run (within left before) (row_commands rs rest) ≡ run (between left) rest
+rows_run : (rs : List Row) (rest : List Command) (left : ℕ) (before : Option (Kind × ℕ)) → AllByRecursion RowInForm rs → Follows before rs → run (within left before) (row_commands rs rest) ≡ run (between left) rest
 rows_run [] rest left before h o = refl
 rows_run (r ∷ rs) rest left before h o =
     let test = and_from (follows before (order_of r)) (regimes_ascend r) o.0 ((decides_regimes r).1 h.0.1) in
     run_more (within left before) (within left (Some (order_of r))) (Record r) (row_commands rs rest) (given_is (follows before (order_of r) && regimes_ascend r) (within left (Some (order_of r))) test)
     ∙ rows_run rs rest left (Some (order_of r)) h.1 o.1
 
-pub body_run : (is : List FileInstruction) → All InstructionInForm is → run (between (length is)) (body_commands is) ≡ Some closed
+pub body_run : (is : List FileInstruction) → AllByRecursion InstructionInForm is → run (between (length is)) (body_commands is) ≡ Some closed
 unfolding body_commands
 body_run [] h = refl
 body_run (change g rs ∷ is) h =
@@ -64,7 +64,7 @@ body_instructions (change g rs ∷ is) =
 
 -- the commands of a well-formed file
 module _ (f : File) (w : WellFormed f) where
-  pub file_in_range : All InRange (commands_of f)
+  pub file_in_range : AllByRecursion InRange (commands_of f)
   file_in_range = ((w.source, w.number, w.count), body_in_range f.instructions w.instructions)
 
   pub file_run : run opening (commands_of f) ≡ Some closed
@@ -77,14 +77,14 @@ file_back f = λ i. record { source = f.source; number = f.number; instructions 
 record Body (left : ℕ) (cs : List Command) : Type 0 where
   pub form : cs ≡ body_commands (instructions_of cs)
   pub count : length (instructions_of cs) ≡ left
-  pub instructions : All InstructionInForm (instructions_of cs)
+  pub instructions : AllByRecursion InstructionInForm (instructions_of cs)
 
 -- and from within one
 record Inside (left : ℕ) (before : Option (Kind × ℕ)) (cs : List Command) : Type 0 where
   pub form : cs ≡ row_commands (records_of cs) (body_commands (instructions_of cs))
   pub count : length (instructions_of cs) ≡ left
-  pub instructions : All InstructionInForm (instructions_of cs)
-  pub rows : All RowInForm (records_of cs)
+  pub instructions : AllByRecursion InstructionInForm (instructions_of cs)
+  pub rows : AllByRecursion RowInForm (records_of cs)
   pub order : Follows before (records_of cs)
 
 abbrev Said : Stage → List Command → Type 0
@@ -117,7 +117,7 @@ said_end left cs next e s =
     record {
       form = ap (λ ds. FileEnd ∷ ds) none ∙ ap (λ ds. body_commands (instructions_of ds)) (sym none);
       count = ap (λ ds. length (instructions_of ds)) none ∙ sym z;
-      instructions = subst (λ ds. All InstructionInForm (instructions_of ds)) (sym none) tt;
+      instructions = subst (λ ds. AllByRecursion InstructionInForm (instructions_of ds)) (sym none) tt;
     }
 
 said_record : (left : ℕ) (before : Option (Kind × ℕ)) (r : Row) (cs : List Command) (next : Stage) → RowInRange r → given (follows before (order_of r) && regimes_ascend r) (within left (Some (order_of r))) ≡ Some next → Said next cs → Inside left before (Record r ∷ cs)
@@ -136,7 +136,7 @@ said_record left before r cs next h e s =
 said_close : (left : ℕ) (before : Option (Kind × ℕ)) (cs : List Command) → Body left cs → Inside left before (InstructionEnd ∷ cs)
 said_close left before cs w = record { form = ap (λ ds. InstructionEnd ∷ ds) w.form; count = w.count; instructions = w.instructions; rows = tt; order = tt }
 
-said : (stage : Stage) (cs : List Command) → All InRange cs → run stage cs ≡ Some closed → Said stage cs
+said : (stage : Stage) (cs : List Command) → AllByRecursion InRange cs → run stage cs ≡ Some closed → Said stage cs
 said opening cs r e = tt
 said (between left) [] r e = let z : ◌≡◌ {A = ℕ} 0 1 = cc in absurd (omega arith)
 said (between left) (Header h ∷ cs) r e = absurd (never closed e)
@@ -164,7 +164,7 @@ pub record Saying (cs : List Command) : Type 0 where
   pub form : WellFormed (file_of cs)
   pub commands : commands_of (file_of cs) ≡ cs
 
-pub saying : (cs : List Command) → All InRange cs → run opening cs ≡ Some closed → Saying cs
+pub saying : (cs : List Command) → AllByRecursion InRange cs → run opening cs ≡ Some closed → Saying cs
 saying [] r e = let z : ◌≡◌ {A = ℕ} 0 1 = cc in absurd (omega arith)
 saying (Header h ∷ cs) r e =
     let b : Body h.count cs = said (between h.count) cs r.1 e in

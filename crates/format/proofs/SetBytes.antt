@@ -1,6 +1,6 @@
 -- The readings of a consumption set and their bytes.
 use Rattle.std.proofs.Common.{◌≡◌, ℕ, zero, suc, ◌+◌, ◌*◌, ◌<◌, ◌≤◌, true, List, [], ◌∷◌, ◌++◌, length, get_or, take, drop, ℤ, pos, nat_abs, Some, None, sym, refl, ap, ◌∙◌, subst, append_assoc, add-zero, add_assoc, add-one, arith, w32, to_z, of_z}
-use Rattle.std.specs.List.{AllByRecursion as All}
+use Rattle.std.specs.List.{AllByRecursion}
 use Rattle.std.proofs.ByRecursion.{All-push, All-get_or}
 use Rattle.std.proofs.lemmas.Bool.{leb-true, le-leb, and_parts, and_from, cond-true}
 use Rattle.std.proofs.lemmas.List.{take_more, take_all}
@@ -36,8 +36,8 @@ set_length s = reading_length (regimes_of s) (values_of s) (regimes_length s ∙
 -- what is read of n readings
 pub record SetRead (n : ℕ) (xs : List ℕ) (i : ℕ) (s : ConsumptionSet) : Type 0 where
   pub count : s.count ≡ n
-  pub regimes : All Id (regimes_of s)
-  pub values : All Value (values_of s)
+  pub regimes : AllByRecursion Id (regimes_of s)
+  pub values : AllByRecursion Value (values_of s)
   pub bytes : reading_bytes (regimes_of s) (values_of s) ++ drop (i + 6 * n) xs ≡ drop i xs
 
 reading_in_range : (regime : ℕ) (value : ℤ) → regime < 65536 → is_reading regime value ≡ true → Id regime × Value value
@@ -63,8 +63,8 @@ module _ (xs : List ℕ) (b : Bytes xs) (i n : ℕ) (t : ConsumptionSet) (few : 
       ∙ joint xs (word_bytes (word xs k)) (long_bytes (of_z w32 (signed xs (k + 2)))) k 2 4 (word_at xs b k (omega arith)) (signed_at xs b (k + 2) (omega arith)) in
       record {
         count = let c = pushed_count t (word xs k) (signed xs (k + 2)) room in omega arith;
-        regimes = subst (All Id) (sym rs) (All-push Id (regimes_of t) (word xs k) g.regimes ranges.0);
-        values = subst (All Value) (sym vs) (All-push Value (values_of t) (signed xs (k + 2)) g.values ranges.1);
+        regimes = subst (AllByRecursion Id) (sym rs) (All-push Id (regimes_of t) (word xs k) g.regimes ranges.0);
+        values = subst (AllByRecursion Value) (sym vs) (All-push Value (values_of t) (signed xs (k + 2)) g.values ranges.1);
         bytes =
             ap (λ (ys : List ℕ). ys ++ drop (i + 6 * suc n) xs) (ap (λ (ys : List ℕ). reading_bytes ys (values_of (pushed t (word xs k) (signed xs (k + 2))))) rs ∙ ap (reading_bytes (regimes_of t ++ word xs k ∷ [])) vs ∙ reading_more (regimes_of t) (values_of t) (word xs k) (signed xs (k + 2)) same)
             ∙ append_assoc (reading_bytes (regimes_of t) (values_of t)) (word_bytes (word xs k) ++ long_bytes (of_z w32 (signed xs (k + 2)))) (drop (i + 6 * suc n) xs)
@@ -81,7 +81,7 @@ set_read (suc n) xs i s b few long e =
     subst (SetRead (suc n) xs i) m.3 (set_step xs b i n m.0 (omega arith) long (set_read n xs i m.0 b (omega arith) (omega arith) m.1) m.2)
 
 -- each reading stands six bytes behind the one before
-reading_at : (rs : List ℕ) (vs : List ℤ) (rest : List ℕ) (k : ℕ) → All Value vs → length rs ≡ length vs → k < length rs → (word (reading_bytes rs vs ++ rest) (6 * k) ≡ get_or rs k 0) × (signed (reading_bytes rs vs ++ rest) (6 * k + 2) ≡ get_or vs k (pos 0))
+reading_at : (rs : List ℕ) (vs : List ℤ) (rest : List ℕ) (k : ℕ) → AllByRecursion Value vs → length rs ≡ length vs → k < length rs → (word (reading_bytes rs vs ++ rest) (6 * k) ≡ get_or rs k 0) × (signed (reading_bytes rs vs ++ rest) (6 * k + 2) ≡ get_or vs k (pos 0))
 reading_at [] vs rest k h e l = absurd (omega arith)
 reading_at (r ∷ rs) [] rest k h e l = absurd (omega arith)
 reading_at (r ∷ rs) (v ∷ vs) rest zero h e l = (word_of r, signed_back v (reading_bytes rs vs ++ rest) h.0)
@@ -108,7 +108,7 @@ one_more xs ys n d x h p q = ap (λ zs. zs ++ x ∷ []) p ∙ ap (λ z. take n x
 reading_passes : (regime : ℕ) (value : ℤ) → Id regime → Value value → is_reading regime value ≡ true
 reading_passes regime value r v = and_from (is_id regime) (is_value value) (le-leb 1 regime r.0) (le-leb (nat_abs value) 2000000000 v)
 
-module _ (s : ConsumptionSet) (xs : List ℕ) (i : ℕ) (rest : List ℕ) (rs : All Id (regimes_of s)) (vs : All Value (values_of s)) (e : drop i xs ≡ reading_bytes (regimes_of s) (values_of s) ++ rest) where
+module _ (s : ConsumptionSet) (xs : List ℕ) (i : ℕ) (rest : List ℕ) (rs : AllByRecursion Id (regimes_of s)) (vs : AllByRecursion Value (values_of s)) (e : drop i xs ≡ reading_bytes (regimes_of s) (values_of s) ++ rest) where
   begun_more : (n : ℕ) → n < s.count → SetBegun s n xs i → SetBegun s (suc n) xs i
   begun_more n h before =
       let t = before.set in

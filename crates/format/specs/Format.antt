@@ -1,6 +1,6 @@
 -- The format law: what the reader accepts, and what a fault says, with no mention of how it reads.
 use Rattle.std.specs.Prelude.{◌≡◌, ℕ, ◌+◌, ◌*◌, ◌<◌, ◌≤◌, ◌⊎◌, List, [], ◌∷◌, ◌++◌, length, take, drop, Some, None, Ok, Err, Result, ◌≢◌}
-use Rattle.std.specs.List.{AllByRecursion as All}
+use Rattle.std.specs.List.{AllByRecursion}
 use Rattle.rows.specs.declared.kinds.Kind.TheVariants.{Registration, Appointment, Collector, Profile, Measurement, Energisation, LineLoss, Group, Advance, Estimate}
 use Rattle.commands.specs.declared.command.Command.{Command}
 use Rattle.commands.specs.declared.command.Letter.{Letter}
@@ -15,7 +15,7 @@ use Rattle.format.specs.WellFormed.{WellFormed, InRange, Between}
 use Rattle.format.specs.Written.{written, command_bytes}
 
 abbrev pub Bytes : List ℕ → Type 0
-Bytes xs = All (λ b. b < 256) xs
+Bytes xs = AllByRecursion (λ b. b < 256) xs
 
 -- the reader accepts a byte string exactly if it is the writing of a well-formed file, and answers that file
 abbrev pub Accepts : Type 0

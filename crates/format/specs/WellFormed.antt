@@ -1,6 +1,6 @@
 -- When a file is well formed: every operand in its range, as many instructions as may be, records and regimes in order.
 use Rattle.std.specs.Prelude.{◌≡◌, ℕ, ◌<◌, ◌≤◌, ◌⊎◌, List, [], ◌∷◌, length, ℤ, unsigned_abs}
-use Rattle.std.specs.List.{AllByRecursion as All}
+use Rattle.std.specs.List.{AllByRecursion}
 use Rattle.fields.specs.Ascent.{Ascending}
 use Rattle.rows.specs.Kinds.{rank_of}
 use Rattle.rows.specs.Rows.{kind_of_row, start_of_row}
@@ -39,8 +39,8 @@ Value v = unsigned_abs v ≤ 2000000000
 -- one to four regimes, each with its value
 pub record SetInRange (s : ConsumptionSet) : Type 0 where
   pub some : 1 ≤ s.count
-  pub regimes : All Id (regimes_of s)
-  pub values : All Value (values_of s)
+  pub regimes : AllByRecursion Id (regimes_of s)
+  pub values : AllByRecursion Value (values_of s)
 
 -- the operands of a record are in range
 abbrev pub RowInRange : Row → Type 0
@@ -87,7 +87,7 @@ pub record HeadingInRange (h : Heading) : Type 0 where
   pub day : Day h.day
 
 abbrev pub InstructionInForm : FileInstruction → Type 0
-InstructionInForm (change h rs) = HeadingInRange h × All RowInForm rs × InOrder rs
+InstructionInForm (change h rs) = HeadingInRange h × AllByRecursion RowInForm rs × InOrder rs
 
 abbrev pub SourceInRange : Source → Type 0
 SourceInRange (source.Agent id) = Id id
@@ -105,4 +105,4 @@ pub record WellFormed (f : File) : Type 0 where
   pub source : SourceInRange f.source
   pub number : Number f.number
   pub count : Between 1 256 (length f.instructions)
-  pub instructions : All InstructionInForm f.instructions
+  pub instructions : AllByRecursion InstructionInForm f.instructions
