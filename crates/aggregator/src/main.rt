@@ -1,4 +1,6 @@
 // The aggregator's program: explains instruction files.
+#![tactic(auto)]
+
 mod inspecting;
 mod sample;
 mod words;

@@ -1,4 +1,6 @@
 // Tests of the layers together, table by table: what files are found to be, and what registers answer.
+#![tactic(auto)]
+
 mod registers;
 
 #[cfg(test)]

@@ -1,5 +1,5 @@
 -- Reading the regimes of a consumption set one by one.
-use Rattle.std.proofs.Common.{◌≡◌, ℕ, zero, suc, ◌+◌, ◌-◌, ◌*◌, ◌≤◌, Bool, true, false, List, ℤ, Some, None, Option, sym, refl, ap, ◌∙◌, add-zero, add-suc, add-one, arith}
+use Rattle.std.proofs.Common.{◌≡◌, ℕ, zero, suc, ◌+◌, ◌-◌, ◌*◌, ◌≤◌, Bool, true, false, List, ℤ, Some, None, sym, ap, ◌∙◌, add-zero, add-suc, add-one, arith}
 use Rattle.fields.specs.Sets.{pushed}
 use Rattle.fields.specs.declared.consumption.ConsumptionSet.{ConsumptionSet}
 use Rattle.commands.specs.Numbers.{word, signed}

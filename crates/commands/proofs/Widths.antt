@@ -1,11 +1,11 @@
 -- A command that can be read is there whole.
-use Rattle.std.proofs.Common.{◌≡◌, ℕ, zero, suc, ◌+◌, ◌-◌, ◌*◌, ◌<◌, ◌≤◌, Bool, true, false, cond, ◌&&◌, leb, List, [], ◌∷◌, length, ℤ, IfOk, Some, None, Ok, Err, Option, Result, sym, refl, ap, ◌∙◌, subst, arith}
+use Rattle.std.proofs.Common.{◌≡◌, ℕ, zero, suc, ◌+◌, ◌*◌, ◌<◌, ◌≤◌, Bool, ◌&&◌, leb, List, [], ◌∷◌, length, IfOk, Some, None, Ok, Err, Option, Result, sym, refl, ap, ◌∙◌, subst, arith}
 use Rattle.std.proofs.lemmas.Bool.{and_parts, leb-true}
 use Rattle.fields.specs.Days.{is_day}
 use Rattle.fields.specs.Groups.{group_of}
 use Rattle.fields.specs.MeasurementClasses.{class_of}
 use Rattle.fields.specs.Statuses.{status_of}
-use Rattle.fields.specs.Sets.{empty_set, pushed}
+use Rattle.fields.specs.Sets.{empty_set}
 use Rattle.rows.specs.Rows.{kind_of_row}
 use Rattle.fields.specs.declared.consumption.ConsumptionSet.{ConsumptionSet}
 use Rattle.rows.specs.declared.kinds.Kind.{Kind}
@@ -22,9 +22,9 @@ use Rattle.commands.specs.declared.command.Letter.TheVariants as announced
 use Rattle.commands.specs.declared.causes.Cause.{Cause}
 use Rattle.commands.specs.declared.causes.Cause.TheVariants.{OutOfRange}
 use Rattle.commands.specs.Numbers.{byte, word, signed}
-use Rattle.commands.specs.Ranges.{is_end, is_set_size, is_reading}
-use Rattle.commands.specs.Records.{given, made, header, heading, registration, appointment, collector, profile, measurement, energisation, line_loss, group, sets, advance, estimate}
-use Rattle.commands.specs.Commands.{whole, ranged, sought, listed, stated, record_of, commanded, letter_of, known, behind, command_in, fixed_size, set_size, width_of}
+use Rattle.commands.specs.Ranges.{is_end, is_set_size}
+use Rattle.commands.specs.Records.{given, made, header, heading, sets, advance, estimate}
+use Rattle.commands.specs.Commands.{ranged, sought, listed, stated, record_of, letter_of, known, behind, command_in, fixed_size, set_size, width_of}
 use Rattle.commands.proofs.Inversions.{given_some, made_some, ranged_ok, cond_ok, whole_ok, commanded_ok}
 
 -- a set of n regimes counts n

@@ -7,9 +7,6 @@ use Rattle.fields.specs.MeasurementClasses.{class_of}
 use Rattle.fields.specs.Sets.{empty_set, pushed}
 use Rattle.fields.specs.Statuses.{status_of}
 use Rattle.fields.specs.declared.consumption.ConsumptionSet.{ConsumptionSet}
-use Rattle.fields.specs.declared.letters.Group as groups
-use Rattle.fields.specs.declared.letters.MeasurementClass as classes
-use Rattle.fields.specs.declared.letters.Status as statuses
 use Rattle.rows.specs.declared.row.Row.{Row}
 use Rattle.rows.specs.declared.row.Row.TheVariants.{Registration, Appointment, Collector, Profile, Measurement, Energisation, LineLoss, Group, Advance, Estimate}
 use Rattle.commands.specs.declared.command.Source.{Source}

@@ -1,6 +1,6 @@
 -- Consumption sets: at most four regimes with a value each, and zeros behind them.
-use Rattle.std.specs.Prelude.{◌≡◌, ℕ, ◌+◌, ◌<◌, ◌≤◌, Bool, true, false, List, take, set, replicate, ℤ, pos, nat_lt, slice_set, refl}
-use Rattle.std.proofs.Common.{arith, add-one-le, lit≤}
+use Rattle.std.specs.Prelude.{◌≡◌, ℕ, ◌+◌, ◌<◌, Bool, true, false, List, take, replicate, ℤ, pos, nat_lt, slice_set, refl}
+use Rattle.std.proofs.Common.{arith, lit≤}
 use Rattle.std.proofs.lemmas.Bool.{ltb-true}
 use Rattle.fields.specs.Padding.{padded_more}
 use Rattle.fields.specs.declared.consumption.ConsumptionSet.{ConsumptionSet}

@@ -1,4 +1,6 @@
 // The register that keeps the rows of all folders in one lent slice, in order.
+#![tactic(auto)]
+
 pub mod capacity;
 mod changing;
 pub mod entries;

@@ -1,5 +1,5 @@
 -- What holds of the source at a place, whatever stands for one past the end.
-use Rattle.std.proofs.Common.{◌≡◌, ℕ, ◌+◌, ◌-◌, ◌<◌, Bool, true, false, List, length, get_or, take, drop, Decides, sym, refl, ap, ◌∙◌, subst, arith, below_more}
+use Rattle.std.proofs.Common.{◌≡◌, ℕ, ◌+◌, ◌-◌, ◌<◌, true, false, List, length, get_or, take, drop, Decides, sym, refl, ap, ◌∙◌, subst, arith, below_more}
 use Rattle.std.proofs.lemmas.List.{get_or_default, get_or-drop, take_rest, length-drop}
 use Rattle.std.proofs.lemmas.Bool.{false≢true}
 use Rattle.sources.specs.declared.listed.Listed.{Listed}

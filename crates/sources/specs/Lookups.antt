@@ -1,5 +1,5 @@
 -- What a list of sources answers of a source and of a distributor.
-use Rattle.std.specs.Prelude.{◌≡◌, ℕ, ◌<◌, List, length, Some, None, Option}
+use Rattle.std.specs.Prelude.{◌≡◌, ℕ, ◌<◌, List, length}
 use Rattle.commands.specs.declared.command.Source.{Source}
 use Rattle.commands.specs.declared.command.Source.TheVariants as source
 use Rattle.sources.specs.declared.listed.Listed.{Listed}

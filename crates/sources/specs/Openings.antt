@@ -1,6 +1,5 @@
 -- When a list of sources may open a book, and what it answers of a source.
-use Rattle.std.specs.Prelude.{◌≡◌, ℕ, ◌<◌, ◌≤◌, List, [], ◌∷◌, length, slice_index_or}
-use Rattle.std.specs.List.{AllByRecursion}
+use Rattle.std.specs.Prelude.{ℕ, ◌<◌, ◌≤◌, List, length, slice_index_or}
 use Rattle.sources.specs.declared.listed.Listed.{Listed}
 use Rattle.sources.specs.declared.listed.Listed.TheVariants.{Collector}
 use Rattle.sources.specs.declared.opening.OpeningFault.{OpeningFault}

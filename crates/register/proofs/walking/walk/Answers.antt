@@ -1,4 +1,4 @@
-use Rattle.std.proofs.Common.{◌≡◌, suc, ◌+◌, ◌<◌, ◌≤◌, length, sym, ap, ◌∙◌, arith, w64, Fits}
+use Rattle.std.proofs.Common.{◌≡◌, suc, ◌+◌, ◌<◌, length, sym, ap, arith}
 use Rattle.register.specs.Walks.{above}
 use Rattle.register.proofs.Keeping.{systems_all}
 use Rattle.register.proofs.Nexts.{next_one, next_none, above_start}

@@ -1,4 +1,4 @@
-use Rattle.std.proofs.Common.{arith, below_more}
+use Rattle.std.proofs.Common.{below_more}
 use Rattle.sources.specs.Lookups.{Serves}
 use Rattle.sources.proofs.Placed.{holds_at, fails_at}
 use Rattle.sources.proofs.opening.Opening.agent_of.Goals as goal

@@ -1,4 +1,4 @@
-use Rattle.std.proofs.Common.{refl, arith, below_more}
+use Rattle.std.proofs.Common.{refl, below_more}
 use Rattle.sources.specs.Lookups.{Names}
 use Rattle.sources.proofs.Placed.{holds_at, fails_at}
 use Rattle.sources.proofs.opening.Opening.lists.Goals as goal
