@@ -18,6 +18,8 @@ pub struct Window<T, const MAX: usize> {
 }
 
 impl<T: Copy, const MAX: usize> Clone for Window<T, MAX> {
+    ghost is_clone = { λ x y. y ≡ x };
+
     ghost is_infallible = { λ _. ⊤ };
 
     fn clone(&self) -> Result<Window<T, MAX>, AllocError> {
