@@ -80,7 +80,7 @@ fn run_arguments(rt: &HostRuntime) -> Result<(), Failure> {
     run(rt, &words)
 }
 
-// A failure has said what it has to say, so only the status tells of it here.
+// What there is to say of a failure is said where it is met; here only the status tells of it.
 fn main(rt: HostRuntime) -> ExitCode {
     match run_arguments(&rt) {
         Ok(()) => ExitCode::SUCCESS,

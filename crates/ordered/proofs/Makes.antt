@@ -75,8 +75,8 @@ module _ (s v : ℕ) (xs : List Entry) (at : ℕ) (h : in_order xs ≡ true) (wi
   put_folder = record { within = within; order = order; folders = pinned (made (s, v) (folders_of xs)) ys order make_pairs make_rows }
 
 -- few rows stay few
-pub few_made : (p : Pair) (xs ys : List Entry) → holds p (folders_of xs) ≡ false → folders_of ys ≡ made p (folders_of xs) → Few xs → Few ys
-few_made p xs ys n e few q k = subst (λ (rs : List Row). length rs ≤ maximum_of k) (sym (ap (λ fs. rows_of q fs k) e ∙ rows_made q p k (folders_of xs) n)) (few q k)
+pub few_made : (p : Pair) (xs after : List Entry) → holds p (folders_of xs) ≡ false → folders_of after ≡ made p (folders_of xs) → Few xs → Few after
+few_made p xs after n e few q k = subst (λ (rs : List Row). length rs ≤ maximum_of k) (sym (ap (λ fs. rows_of q fs k) e ∙ rows_made q p k (folders_of xs) n)) (few q k)
 
 -- what a search for the folder's key tells
 above_rest : (p : Pair) (y : Entry) (ys : List Entry) → below p (pair_of y) ≡ true → Over y ys → AllByRecursion (λ e. below p (pair_of e) ≡ true) ys
