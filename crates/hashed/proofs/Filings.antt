@@ -6,7 +6,7 @@ use Rattle.blocks.specs.Block.{empty_folder, with_rows}
 use Rattle.register.specs.Folders.{Pair, Rows, Folder, same, below, no_rows, holds, rows_of, changed, made, next_pair}
 use Rattle.register.specs.Walks.{pairs_of}
 use Rattle.hashed.specs.Filing.{filed, gathered}
-use Rattle.register.proofs.Pairs.{same_is, is_same}
+use Rattle.register.proofs.PairOrder.{same_is, is_same}
 use Rattle.hashed.specs.Table.{seek}
 
 twice : (a b c : Bool) → a ≡ b → (a || c) ≡ (a || (b || c))

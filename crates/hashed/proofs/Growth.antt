@@ -9,7 +9,7 @@ use Rattle.blocks.specs.Block.{empty_folder}
 use Rattle.register.specs.Folders.{Pair, Folder, same, below, holds}
 use Rattle.register.specs.Walks.{pairs_of}
 use Rattle.hashed.specs.Filing.{filed}
-use Rattle.register.proofs.Pairs.{below_not_same, above_not_same, above_not_below, else_above}
+use Rattle.register.proofs.PairOrder.{below_not_same, above_not_same, above_not_below, else_above}
 use Rattle.hashed.specs.Table.{folder_at, pair_at, held_in, home_of, last, seek, Linked, Ordered, Sound}
 use Rattle.hashed.proofs.Filings.{holds_gathered, all_absent, gathered_same}
 use Rattle.hashed.proofs.Searches.{keys, long, inside_all}

@@ -6,7 +6,7 @@ use Rattle.std.proofs.lemmas.List.{length-take-le, get_or-take, get_or-map, leng
 use Rattle.std.proofs.lemmas.Bool.{cases_Bool, both_ways}
 use Rattle.register.specs.Folders.{Pair, Folder, below, next_pair}
 use Rattle.register.specs.Walks.{pairs_of}
-use Rattle.register.proofs.Pairs.{below_trans}
+use Rattle.register.proofs.PairOrder.{below_trans}
 use Rattle.register.proofs.Rising.{Under, Rising}
 use Rattle.hashed.specs.Rising.{rising_gathered}
 use Rattle.hashed.specs.Table.{folder_at, pair_at, held_in, Ordered}

@@ -2,7 +2,7 @@
 use Rattle.std.proofs.Common.{◌≡◌, ℕ, zero, suc, ◌-◌, ◌<◌, ◌≤◌, true, false, eqb, List, length, get_or, sym, refl, ap, ◌∙◌, subst, arith}
 use Rattle.std.proofs.lemmas.Bool.{eqb-true, eqb-false, cond-true, cond-false, cond_both}
 use Rattle.register.specs.Folders.{Pair, Folder, same}
-use Rattle.register.proofs.Pairs.{same_is, refuted}
+use Rattle.register.proofs.PairOrder.{same_is, refuted}
 use Rattle.hashed.specs.Table.{pair_at, home_of, last, seek, Linked}
 
 module _ (f : ℕ → Pair) (size : ℕ) where

@@ -4,7 +4,7 @@ use Rattle.std.proofs.Common.{sym, subst, arith}
 use Rattle.std.specs.List.{AllByRecursion}
 use Rattle.std.proofs.lemmas.Bool.{cond_both}
 use Rattle.register.specs.Folders.{Pair, Folder, below, same}
-use Rattle.register.proofs.Pairs.{same_is, else_above}
+use Rattle.register.proofs.PairOrder.{same_is, else_above}
 use Rattle.register.proofs.Rising.{Under, Rising, under_lower}
 use Rattle.hashed.specs.Filing.{filed, gathered}
 

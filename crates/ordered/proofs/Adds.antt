@@ -6,7 +6,7 @@ use Rattle.std.proofs.lemmas.List.{append-nil, take-append-drop, drop-drop, get_
 use Rattle.std.proofs.lemmas.Bool.{cases_Bool, both_ways, or_cases, and_parts, and_from, and_left, and_right, lt-ltb, le-ltb, eq-eqb, ltb-true}
 use Rattle.register.specs.Folders.{Pair, Rows, Folder, below, same, same_kind, rows_of, holds, with_kind, addable, added_folders, starts_after}
 use Rattle.register.specs.Walks.{pairs_of}
-use Rattle.register.proofs.Pairs.{below_trans, never_below, same_is, is_same}
+use Rattle.register.proofs.PairOrder.{below_trans, never_below, same_is, is_same}
 use Rattle.rows.specs.Kinds.{rank_of, maximum_of}
 use Rattle.rows.specs.Rows.{kind_of_row, start_of_row}
 use Rattle.rows.specs.declared.kinds.Kind.{Kind}

@@ -5,7 +5,7 @@ use Rattle.std.proofs.lemmas.Bool.{cond_both, cases_Bool, or_parts, and_left, an
 use Rattle.register.specs.Folders.{Pair, Rows, Folder, below, same, rows_of, holds, made, changed, with_kind, same_kind, no_rows}
 use Rattle.register.specs.Walks.{pairs_of}
 use Rattle.register.proofs.Rising.{Under, Rising}
-use Rattle.register.proofs.Pairs.{below_not_same, above_not_same, above_not_below, same_is, is_same}
+use Rattle.register.proofs.PairOrder.{below_not_same, above_not_same, above_not_below, same_is, is_same}
 use Rattle.rows.specs.Kinds.{maximum_of}
 use Rattle.rows.specs.declared.kinds.Kind.{Kind}
 use Rattle.rows.specs.declared.row.Row.{Row}

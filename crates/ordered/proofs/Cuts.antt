@@ -6,7 +6,7 @@ use Rattle.std.proofs.lemmas.List.{append-nil, length-take}
 use Rattle.std.proofs.lemmas.Bool.{cases_Bool, both_ways, and_parts, and_from, cond_both, le-leb, lt-leb, eq-eqb}
 use Rattle.register.specs.Folders.{Pair, Folder, same, same_kind, rows_of, with_kind, kept_rows, cut_folders, no_rows}
 use Rattle.register.specs.Walks.{pairs_of}
-use Rattle.register.proofs.Pairs.{is_same}
+use Rattle.register.proofs.PairOrder.{is_same}
 use Rattle.timeline.specs.Finding.{before}
 use Rattle.rows.specs.Kinds.{rank_of, maximum_of}
 use Rattle.rows.specs.Rows.{kind_of_row, start_of_row}

@@ -3,7 +3,7 @@ use Rattle.std.proofs.Common.{◌≡◌, ℕ, zero, suc, ◌<◌, true, false, �
 use Rattle.std.specs.List.{AllByRecursion}
 use Rattle.std.proofs.lemmas.Bool.{both_ways, and_parts, and_from, or_cases, or_left}
 use Rattle.register.specs.Folders.{Pair, below, same}
-use Rattle.register.proofs.Pairs.{below_trans, never_below, same_is, is_same}
+use Rattle.register.proofs.PairOrder.{below_trans, never_below, same_is, is_same}
 use Rattle.rows.specs.declared.row.Row.{Row}
 use Rattle.ordered.specs.declared.entries.Entry.{Entry}
 use Rattle.ordered.specs.Keys.{pair_of, key_of, lower}

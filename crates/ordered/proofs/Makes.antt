@@ -6,7 +6,7 @@ use Rattle.std.proofs.lemmas.List.{take-append-drop, drop_all, drop_more}
 use Rattle.std.proofs.lemmas.Bool.{both_ways, or_left, or_right}
 use Rattle.register.specs.Folders.{Pair, below, same, rows_of, holds, made}
 use Rattle.register.specs.Walks.{pairs_of}
-use Rattle.register.proofs.Pairs.{below_trans, below_not_same, is_same, above_not_same}
+use Rattle.register.proofs.PairOrder.{below_trans, below_not_same, is_same, above_not_same}
 use Rattle.rows.specs.Kinds.{maximum_of}
 use Rattle.rows.specs.declared.kinds.Kind.{Kind}
 use Rattle.rows.specs.declared.row.Row.{Row}

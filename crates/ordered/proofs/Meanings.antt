@@ -3,7 +3,7 @@ use Rattle.std.proofs.Common.{◌≡◌, ℕ, Bool, true, false, cond, ◌&&◌,
 use mathlib.Core.Path.{fun_ext}
 use Rattle.std.proofs.lemmas.Bool.{cases_Bool, both_ways, or_left}
 use Rattle.register.specs.Folders.{Pair, Folder, below, same, same_kind, rows_of, holds}
-use Rattle.register.proofs.Pairs.{below_trans, below_not_same, same_is, is_same}
+use Rattle.register.proofs.PairOrder.{below_trans, below_not_same, same_is, is_same}
 use Rattle.rows.specs.Rows.{kind_of_row}
 use Rattle.rows.specs.declared.kinds.Kind.{Kind}
 use Rattle.rows.specs.declared.row.Row.{Row}

@@ -5,7 +5,7 @@ use Rattle.std.proofs.ByRecursion.{All-weaker}
 use Rattle.std.proofs.lemmas.List.{take-append-drop, drop_all, drop_more}
 use Rattle.std.proofs.lemmas.Bool.{both_ways, and_parts, or_cases}
 use Rattle.register.specs.Folders.{Pair, below, same, next_pair}
-use Rattle.register.proofs.Pairs.{same_is}
+use Rattle.register.proofs.PairOrder.{same_is}
 use Rattle.rows.specs.declared.row.Row.{Row}
 use Rattle.ordered.specs.declared.entries.Entry.{Entry}
 use Rattle.ordered.specs.Keys.{pair_of, key_at, Before, NotBefore}

@@ -2,7 +2,7 @@
 use Rattle.std.proofs.Common.{◌≡◌, ℕ, suc, ◌<◌, ◌≤◌, Bool, true, false, ◌&&◌, ltb, ◌⊎◌, Some, None, Option, sym, refl, ap, subst, inl, inr, ⊎_elim, arith}
 use Rattle.std.proofs.lemmas.Bool.{cases_Bool, cases_lt, both_ways, and_parts, and_from, lt-ltb, ltb-true, eq-eqb, eqb-true}
 use Rattle.register.specs.Folders.{Pair, below, same, same_kind}
-use Rattle.register.proofs.Pairs.{else_above, below_decides, never_below, below_trans, same_is, is_same}
+use Rattle.register.proofs.PairOrder.{else_above, below_decides, never_below, below_trans, same_is, is_same}
 use Rattle.rows.specs.Kinds.{rank_of}
 use Rattle.rows.specs.Rows.{kind_of_row}
 use Rattle.rows.specs.declared.kinds.Kind.{Kind}

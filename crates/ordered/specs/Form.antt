@@ -7,7 +7,7 @@ use Rattle.std.proofs.lemmas.List.{length-map, get_or-map}
 use Rattle.std.proofs.lemmas.Bool.{cond_both, cases_Bool, and_parts, eqb-true, ltb-true}
 use Rattle.register.specs.Folders.{Pair, Rows, Folder, same, same_kind, rows_of, FolderInForm, Systems, InForm}
 use Rattle.register.proofs.Keeping.{all_systems}
-use Rattle.register.proofs.Pairs.{below_not_same, same_is, is_same}
+use Rattle.register.proofs.PairOrder.{below_not_same, same_is, is_same}
 use Rattle.register.proofs.Rising.{Under, Rising, under_lower, rising_ascends}
 use Rattle.fields.specs.Ascent.{Ascending}
 use Rattle.rows.specs.Kinds.{rank_of, maximum_of}

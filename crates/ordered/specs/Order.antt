@@ -3,7 +3,7 @@ use Rattle.std.specs.Prelude.{◌≡◌, ℕ, ◌<◌, Bool, true, ◌||◌, ◌
 use Rattle.std.proofs.Common.{sym, ap, ◌∙◌, inl, inr, ⊎_elim, arith}
 use Rattle.std.proofs.lemmas.Bool.{lt-ltb, ltb-true, eq-eqb, eqb-true, and_parts, and_from, or_left, or_right, or_cases}
 use Rattle.register.specs.Folders.{Pair, below, same, same_kind}
-use Rattle.register.proofs.Pairs.{never_below, same_is}
+use Rattle.register.proofs.PairOrder.{never_below, same_is}
 use Rattle.rows.specs.Kinds.{rank_of, kinds}
 use Rattle.rows.specs.declared.kinds.Kind.{Kind}
 use Rattle.rows.specs.declared.kinds.Kind.TheVariants.{Registration, Appointment, Collector, Profile, Measurement, Energisation, LineLoss, Group, Advance, Estimate}

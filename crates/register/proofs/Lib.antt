@@ -1,4 +1,4 @@
 pub mod Keeping
 pub mod Nexts
-pub mod Pairs
+pub mod PairOrder
 pub mod Rising

@@ -1,12 +1,13 @@
 -- The next pair is the first of those that are to come.
-use Rattle.std.proofs.Common.{◌≡◌, ℕ, suc, ◌<◌, true, false, cond, List, [], ◌∷◌, length, get_or, Some, None, Option, sym, refl, ap, ◌∙◌, subst, inl, arith}
+use Rattle.std.proofs.Common.{◌≡◌, ℕ, ◌<◌, true, false, cond, List, [], ◌∷◌, length, get_or, Some, None, Option, sym, refl, ap, ◌∙◌, subst, inl, arith}
 use Rattle.std.specs.Iterator.{Drains}
 use Rattle.std.proofs.ByRecursion.{all_from_every}
 use Rattle.std.proofs.lemmas.List.{length-map}
 use Rattle.std.proofs.lemmas.Bool.{cond-true, cond-false}
-use Rattle.register.specs.Folders.{Pair, Folder, below, next_pair, Systems}
+use Rattle.register.specs.declared.pairs.Pair.{Pair}
+use Rattle.register.specs.Folders.{Folder, below, next_pair, Systems}
 use Rattle.register.specs.Walks.{above, pairs_of, taken}
-use Rattle.register.proofs.Pairs.{below_decides, above_not_below, not_below_itself}
+use Rattle.register.proofs.PairOrder.{below_decides, above_not_below, not_below_itself}
 use Rattle.register.proofs.Rising.{Under, Rising, under_lower}
 
 pub above_all : (p : Pair) (fs : List Folder) → Under p fs → above p fs ≡ fs
@@ -48,15 +49,14 @@ next_some p q (f ∷ fs) r e =
 pub fewer : (p q : Pair) (fs : List Folder) → pairs_of (above p fs) ≡ q ∷ pairs_of (above q fs) → length (above q fs) < length (above p fs)
 fewer p q fs e = omega (arith, ap length e, length-map (above p fs) (λ f. f.pair), length-map (above q fs) (λ f. f.pair))
 
--- above the next pair is one folder fewer
-pub next_one : (p q : Pair) (fs : List Folder) → Rising fs → next_pair p fs ≡ Some q → length (above p fs) ≡ suc (length (above q fs))
-next_one p q fs r e = omega (arith, ap length (next_some p q fs r e), length-map (above p fs) (λ f. f.pair), length-map (above q fs) (λ f. f.pair))
-
 -- a walk begins below every metering system
-pub above_start : (fs : List Folder) → Systems fs → above (0, 0) fs ≡ fs
+abbrev pub start : Pair
+start = record { system = 0; view = 0 }
+
+pub above_start : (fs : List Folder) → Systems fs → above start fs ≡ fs
 above_start fs h =
-    above_all (0, 0) fs
-    (all_from_every (λ f. below (0, 0) f.pair ≡ true) fs (λ i d _ l. (below_decides (0, 0) (get_or fs i d).pair).1 (inl (h i d l).0)))
+    above_all start fs
+    (all_from_every (λ f. below start f.pair ≡ true) fs (λ i d _ l. (below_decides start (get_or fs i d).pair).1 (inl (h i d l).0)))
 
 -- an iterator that takes from what it shows gives all of that
 pub drained : {S A : Type 0} (steps : S → Option A → S → Type 0) (shown : S → List A) → ((s : S) (r : Option A) (t : S) → steps s r t → shown s ≡ taken r (shown t)) → (s : S) (xs : List A) → Drains steps s xs → xs ≡ shown s

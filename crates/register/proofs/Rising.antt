@@ -3,8 +3,9 @@ use Rattle.std.proofs.Common.{◌≡◌, zero, suc, true, false, cond, ◌||◌,
 use Rattle.std.specs.List.{AllByRecursion}
 use Rattle.std.proofs.ByRecursion.{All-weaker, All-get_or, All-from_get_or}
 use Rattle.std.proofs.lemmas.Bool.{cond_both, both_ways}
-use Rattle.register.specs.Folders.{Pair, Folder, below, same, no_rows, holds, made, PairsAscend}
-use Rattle.register.proofs.Pairs.{below_decides, below_trans, below_not_same}
+use Rattle.register.specs.declared.pairs.Pair.{Pair}
+use Rattle.register.specs.Folders.{Folder, below, same, no_rows, holds, made, PairsAscend}
+use Rattle.register.proofs.PairOrder.{below_decides, below_trans, below_not_same}
 
 -- a pair is below all of these folders
 abbrev pub Under : Pair → List Folder → Type 0

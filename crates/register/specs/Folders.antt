@@ -7,11 +7,13 @@ use Rattle.rows.specs.Rows.{kind_of_row, start_of_row}
 use Rattle.rows.specs.declared.kinds.Kind.{Kind}
 use Rattle.rows.specs.declared.row.Row.{Row}
 use Rattle.timeline.specs.Finding.{before}
+use Rattle.register.specs.declared.pairs.Pair.{Pair}
+use Rattle.register.specs.declared.systems.MeteringSystem.{MeteringSystem}
 use Rattle.register.specs.Systems.{Numbered}
 
--- a metering system and a view of it: 0 for what the agent says, else the id of a collector
-abbrev pub Pair : Type 0
-Pair = ℕ × ℕ
+-- a view of a metering system
+abbrev pub with_view : MeteringSystem → ℕ → Pair
+with_view s v = record { system = s.number; view = v }
 
 -- the rows of each kind
 abbrev pub Rows : Type 0
@@ -24,13 +26,13 @@ pub record Folder : Type 0 where
 
 -- one pair comes before another: its system is lower, or the same and its view is lower
 abbrev pub Below : Pair → Pair → Type 0
-Below p q = (p.0 < q.0) ⊎ ((p.0 ≡ q.0) × (p.1 < q.1))
+Below p q = (p.system < q.system) ⊎ ((p.system ≡ q.system) × (p.view < q.view))
 
 abbrev pub below : Pair → Pair → Bool
-below p q = nat_lt p.0 q.0 || (p.0 == q.0 && nat_lt p.1 q.1)
+below p q = nat_lt p.system q.system || (p.system == q.system && nat_lt p.view q.view)
 
 abbrev pub same : Pair → Pair → Bool
-same p q = p.0 == q.0 && p.1 == q.1
+same p q = p.system == q.system && p.view == q.view
 
 abbrev pub same_kind : Kind → Kind → Bool
 same_kind k l = rank_of k == rank_of l
@@ -112,10 +114,10 @@ FolderInForm f = (kind : Kind) → KindInForm kind (f.rows kind)
 
 -- every folder is of a metering system: the same as `systems` below, place by place
 abbrev pub Systems : List Folder → Type 0
-Systems fs = (i : ℕ) (d : Folder) → i < length fs → Numbered (slice_index_or fs i d).pair.0
+Systems fs = (i : ℕ) (d : Folder) → i < length fs → Numbered (slice_index_or fs i d).pair.system
 
 pub record InForm (places : ℕ) (fs : List Folder) : Type 0 where
   pub ascend : PairsAscend fs
-  pub systems : AllByRecursion (λ f. Numbered f.pair.0) fs
+  pub systems : AllByRecursion (λ f. Numbered f.pair.system) fs
   pub folders : AllByRecursion FolderInForm fs
   pub room : length fs ≤ places

@@ -1,6 +1,7 @@
 -- What a walk by the next pair has still to come to.
 use Rattle.std.specs.Prelude.{cond, List, [], ◌∷◌, map, Some, None, Option}
-use Rattle.register.specs.Folders.{Pair, Folder, below}
+use Rattle.register.specs.declared.pairs.Pair.{Pair}
+use Rattle.register.specs.Folders.{Folder, below}
 
 -- the folders above a pair
 abbrev pub above : Pair → List Folder → List Folder

@@ -1,8 +1,9 @@
 // The register: what every one of them promises, by what it means.
 ghost use Rattle.std.specs.Prelude.{◌≡◌, ℕ, List, [], length, if◌then◌else◌};
 ghost use Rattle.std.specs.List.{slice_get};
-ghost use Rattle.register.specs.Folders.{Folder, InForm, rows_of, next_pair, made, makeable, cut_folders, added_folders, addable};
+ghost use Rattle.register.specs.Folders.{Folder, InForm, with_view, rows_of, next_pair, made, makeable, cut_folders, added_folders, addable};
 
+use crate::pairs::Pair;
 use crate::systems::MeteringSystem;
 use rows::kinds::Kind;
 use rows::row::Row;
@@ -25,33 +26,33 @@ pub trait Register {
         ensures { result ≡ length (folders self.now) };
 
     // The smallest held pair above a given one, system first.
-    fn next(&self, system: u64, view: u16) -> Option<(u64, u16)>
-        ensures { result ≡ next_pair (system, view) (folders self.now) };
+    fn next(&self, pair: Pair) -> Option<Pair>
+        ensures { result ≡ next_pair pair (folders self.now) };
 
     // How many rows of a kind a folder has; a folder that is not held has none.
-    fn count(&self, system: u64, view: u16, kind: Kind) -> usize
-        ensures { result ≡ length (rows_of (system, view) (folders self.now) kind) };
+    fn count(&self, pair: Pair, kind: Kind) -> usize
+        ensures { result ≡ length (rows_of pair (folders self.now) kind) };
 
     // The row at a place of a kind, exactly as it was added, in the place that is lent; past the
     // count none.
-    fn read(&self, system: u64, view: u16, kind: Kind, place: usize, row: &mut Option<Row>)
-        ensures { row.new ≡ slice_get (rows_of (system, view) (folders self.now) kind) place };
+    fn read(&self, pair: Pair, kind: Kind, place: usize, row: &mut Option<Row>)
+        ensures { row.new ≡ slice_get (rows_of pair (folders self.now) kind) place };
 
     // An empty folder, if there is a place; a pair that is held changes nothing.
     fn make(&mut self, system: MeteringSystem, view: u16) -> bool
-        ensures answer { result ≡ makeable (places self.old) (system.number, view) (folders self.old) }
-        ensures after { folders self.new ≡ (if result then made (system.number, view) (folders self.old) else folders self.old) }
+        ensures answer { result ≡ makeable (places self.old) (with_view system view) (folders self.old) }
+        ensures after { folders self.new ≡ (if result then made (with_view system view) (folders self.old) else folders self.old) }
         ensures places { places self.new ≡ places self.old };
 
     // Drops the rows of one kind in one folder that start on or after a day.
     fn cut(&mut self, system: MeteringSystem, view: u16, kind: Kind, day: u16)
-        ensures after { folders self.new ≡ cut_folders (system.number, view) kind day (folders self.old) }
+        ensures after { folders self.new ≡ cut_folders (with_view system view) kind day (folders self.old) }
         ensures places { places self.new ≡ places self.old };
 
     // Appends a row to its kind.
     fn add(&mut self, system: MeteringSystem, view: u16, row: Row) -> bool
-        ensures answer { result ≡ addable (system.number, view) row (folders self.old) }
-        ensures after { folders self.new ≡ (if result then added_folders (system.number, view) row (folders self.old) else folders self.old) }
+        ensures answer { result ≡ addable (with_view system view) row (folders self.old) }
+        ensures after { folders self.new ≡ (if result then added_folders (with_view system view) row (folders self.old) else folders self.old) }
         ensures places { places self.new ≡ places self.old };
 
     // Forgets all folders.

@@ -1,7 +1,9 @@
 // From a number to a metering system and back.
 ghost use Rattle.std.specs.Prelude.{◌≡◌, ◌/◌, ◌≤◌, MatchOption};
+ghost use Rattle.register.specs.Folders.{with_view};
 ghost use Rattle.register.specs.Systems.{Numbered};
 
+use crate::pairs::Pair;
 use crate::systems::MeteringSystem;
 
 impl MeteringSystem {
@@ -25,6 +27,16 @@ impl MeteringSystem {
         ensures { (result ≡ self.number) × (Numbered result) }
     {
         self.number
+    }
+
+    // A view of it.
+    pub fn with_view(self, view: u16) -> Pair
+        ensures { result ≡ with_view self view }
+    {
+        Pair {
+            system: self.number,
+            view,
+        }
     }
 
     // The distributor whose lines it is connected to, by which agents share systems out.

@@ -2,19 +2,20 @@
 use Rattle.std.proofs.Common.{◌≡◌, Bool, true, false, Decides, sym, refl, ◌∙◌, inl, inr, ⊎_elim, arith}
 use Rattle.std.proofs.lemmas.Bool.{cases_order}
 use Rattle.std.proofs.lemmas.Bool.Decides.{Decides-and, Decides-or, Decides-eqb, Decides-ltb, not_from_Decides}
-use Rattle.register.specs.Folders.{Pair, Below, below, same}
+use Rattle.register.specs.declared.pairs.Pair.{Pair}
+use Rattle.register.specs.Folders.{Below, below, same}
 
 pub below_decides : (p q : Pair) → Decides (below p q) (Below p q)
-below_decides p q = Decides-or _ _ (Decides-ltb p.0 q.0) (Decides-and _ _ (Decides-eqb p.0 q.0) (Decides-ltb p.1 q.1))
+below_decides p q = Decides-or _ _ (Decides-ltb p.system q.system) (Decides-and _ _ (Decides-eqb p.system q.system) (Decides-ltb p.view q.view))
 
-same_decides : (p q : Pair) → Decides (same p q) ((p.0 ≡ q.0) × (p.1 ≡ q.1))
-same_decides p q = Decides-and _ _ (Decides-eqb p.0 q.0) (Decides-eqb p.1 q.1)
+same_decides : (p q : Pair) → Decides (same p q) ((p.system ≡ q.system) × (p.view ≡ q.view))
+same_decides p q = Decides-and _ _ (Decides-eqb p.system q.system) (Decides-eqb p.view q.view)
 
 pub same_is : (p q : Pair) → same p q ≡ true → p ≡ q
-same_is p q e = let h = (same_decides p q).0 e in λ i. (h.0 i, h.1 i)
+same_is p q e = let h = (same_decides p q).0 e in λ i. record { system = h.0 i; view = h.1 i }
 
 pub is_same : (p q : Pair) → p ≡ q → same p q ≡ true
-is_same p q e = (same_decides p q).1 (λ i. (e i).0, λ i. (e i).1)
+is_same p q e = (same_decides p q).1 (λ i. (e i).system, λ i. (e i).view)
 
 trans : (p q r : Pair) → Below p q → Below q r → Below p r
 trans p q r (inl h) (inl k) = inl (omega arith)
@@ -56,6 +57,6 @@ above_not_same p q e =
 pub else_above : (p q : Pair) → same p q ≡ false → below p q ≡ false → below q p ≡ true
 else_above p q e f =
     ⊎_elim
-    (λ a. ⊎_elim (λ b. absurd (not_from_Decides _ (same_decides p q) e (a, b))) (⊎_elim (λ b. absurd (not_from_Decides _ (below_decides p q) f (inr (a, b)))) (λ b. (below_decides q p).1 (inr (sym a, b)))) (cases_order p.1 q.1))
+    (λ a. ⊎_elim (λ b. absurd (not_from_Decides _ (same_decides p q) e (a, b))) (⊎_elim (λ b. absurd (not_from_Decides _ (below_decides p q) f (inr (a, b)))) (λ b. (below_decides q p).1 (inr (sym a, b)))) (cases_order p.view q.view))
     (⊎_elim (λ a. absurd (not_from_Decides _ (below_decides p q) f (inl a))) (λ a. (below_decides q p).1 (inl a)))
-    (cases_order p.0 q.0)
+    (cases_order p.system q.system)
