@@ -4,12 +4,12 @@ mod folder;
 ghost use Rattle.blocks.specs.Holding.{StartsAscend};
 
 use crate::contents::Contents;
+use register::pairs::Pair;
 
 // The starts of the rows of each kind ascend, in every block.
 #[derive(Clone, Copy)]
 pub struct Block {
-    pub system: u64,
-    pub view: u16,
+    pub pair: Pair,
     pub link: u32,
     contents: Contents,
     ghost ascend: { StartsAscend contents },

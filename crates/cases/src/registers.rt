@@ -9,9 +9,10 @@ mod tests {
     use ordered::capacity::entries_per_folder;
     use ordered::entries::Entry;
     use ordered::registers::Ordered;
+    use register::pairs::Pair;
     use register::registers::Register;
     use register::systems::MeteringSystem;
-    use register::walking::{Pairs, walked};
+    use register::walking::{Pairs, walk};
     use rows::dated::Dated;
     use rows::kinds::Kind;
     use rows::row::{Advance, Appointment, Estimate, Row, State};
@@ -152,15 +153,17 @@ mod tests {
     fn answer_to<R: Register>(register: &mut R, call: Call) -> Answer {
         match call {
             Call::Held => Answer::Number(register.held()),
-            Call::Next(system, view) => match register.next(system, view) {
-                Some((system, view)) => Answer::Pair(system, view),
+            Call::Next(system, view) => match register.next(Pair { system, view }) {
+                Some(Pair { system, view }) => Answer::Pair(system, view),
                 None => Answer::Nothing,
             },
-            Call::Count(system, view, kind) => Answer::Number(register.count(system, view, kind)),
+            Call::Count(system, view, kind) => {
+                Answer::Number(register.count(Pair { system, view }, kind))
+            }
             Call::Read(system, view, kind, place) => {
                 // what a register leaves in the place that is lent must not be this
                 let mut row = Some(row_of(Kind::Group, 1));
-                register.read(system, view, kind, place, &mut row);
+                register.read(Pair { system, view }, kind, place, &mut row);
                 answer_of(row, kind)
             }
             Call::Clear => {
@@ -209,14 +212,14 @@ mod tests {
 
     // The walks over two registers come to the same pairs, as many as are held.
     fn walk_both<R: Register, S: Register>(rt: &impl Abort, one: &R, other: &S) {
-        let mut last = (0, 0);
+        let mut last = Pair { system: 0, view: 0 };
         for pair in Pairs::of(one) {
-            assert_eq!(rt; other.next(last.0, last.1), Some(pair));
+            assert_eq!(rt; other.next(last), Some(pair));
             last = pair;
         }
-        assert_eq!(rt; other.next(last.0, last.1), None);
-        assert_eq!(rt; walked(one), one.held());
-        assert_eq!(rt; walked(other), one.held());
+        assert_eq!(rt; other.next(last), None);
+        assert_eq!(rt; walk(one), one.held());
+        assert_eq!(rt; walk(other), one.held());
     }
 
     // Both registers over memory for so many folders, worked through the table.

@@ -3,7 +3,8 @@ use Rattle.std.proofs.Common.{◌≡◌, ℕ, zero, suc, ◌<◌, ◌≤◌, Boo
 use Rattle.std.specs.List.{AllByRecursion}
 use Rattle.std.proofs.lemmas.Bool.{cond-true, cond-false, cond_both, cases_Bool, or_parts, both_ways, lt-ltb}
 use Rattle.blocks.specs.Block.{empty_folder, with_rows}
-use Rattle.register.specs.Folders.{Pair, Rows, Folder, same, below, no_rows, holds, rows_of, changed, made, next_pair}
+use Rattle.register.specs.declared.pairs.Pair.{Pair}
+use Rattle.register.specs.Folders.{Rows, Folder, same, below, no_rows, holds, rows_of, changed, made, next_pair, lowest}
 use Rattle.register.specs.Walks.{pairs_of}
 use Rattle.hashed.specs.Filing.{filed, gathered}
 use Rattle.register.proofs.PairOrder.{same_is, is_same}
@@ -156,7 +157,7 @@ pub next_none : (k : Pair) (fs : List Folder) → AllByRecursion (λ q. below k 
 next_none k [] a = refl
 next_none k (f ∷ fs) a = cond-false _ _ _ a.0 ∙ next_none k fs a.1
 
-pub next_some : (k : Pair) (fs : List Folder) (at : ℕ) → at < length (pairs_of fs) → AllByRecursion (λ q. below k q ≡ false) (take at (pairs_of fs)) → below k (get_or (pairs_of fs) at (0, 0)) ≡ true → next_pair k fs ≡ Some (get_or (pairs_of fs) at (0, 0))
+pub next_some : (k : Pair) (fs : List Folder) (at : ℕ) → at < length (pairs_of fs) → AllByRecursion (λ q. below k q ≡ false) (take at (pairs_of fs)) → below k (get_or (pairs_of fs) at lowest) ≡ true → next_pair k fs ≡ Some (get_or (pairs_of fs) at lowest)
 next_some k [] at l a h = absurd (omega arith)
 next_some k (f ∷ fs) zero l a h = cond-true _ _ _ h
 next_some k (f ∷ fs) (suc n) l a h = cond-false _ _ _ a.0 ∙ next_some k fs n (omega arith) a.1 h

@@ -6,7 +6,8 @@ use Rattle.std.proofs.lemmas.List.{length-map, length-set, length-take-le, get_o
 use Rattle.std.proofs.lemmas.Slice.{between_is}
 use Rattle.std.proofs.lemmas.Bool.{cases_eq, cases_lt, eq-eqb, ne_eqb, cond-true, cond-false}
 use Rattle.blocks.specs.Block.{empty_folder}
-use Rattle.register.specs.Folders.{Pair, Folder, same, below, holds}
+use Rattle.register.specs.declared.pairs.Pair.{Pair}
+use Rattle.register.specs.Folders.{Folder, same, below, holds, lowest}
 use Rattle.register.specs.Walks.{pairs_of}
 use Rattle.hashed.specs.Filing.{filed}
 use Rattle.register.proofs.PairOrder.{below_not_same, above_not_same, above_not_below, else_above}
@@ -57,10 +58,10 @@ module _ (heads : List ℕ) (fs : List Folder) (links order : List ℕ) (n place
   within = omega (arith, sound.blocked)
 
   kept : (i : ℕ) → i < n → folder_at (set fs n x) i ≡ folder_at fs i
-  kept i l = get_or-set_other fs n i x (empty_folder (0, 0)) (λ e. omega arith)
+  kept i l = get_or-set_other fs n i x (empty_folder lowest) (λ e. omega arith)
 
   here : folder_at (set fs n x) n ≡ x
-  here = get_or-set_same fs n x (empty_folder (0, 0)) within
+  here = get_or-set_same fs n x (empty_folder lowest) within
 
   pair_kept : (i : ℕ) → i < n → pair_at (set fs n x) i ≡ pair_at fs i
   pair_kept i l = ap (λ f. f.pair) (kept i l)

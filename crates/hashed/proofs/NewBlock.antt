@@ -4,7 +4,8 @@ use Rattle.std.specs.List.{AllByRecursion}
 use Rattle.std.proofs.lemmas.List.{length-map, length-set, map-set}
 use Rattle.blocks.specs.Block.{folder_of, empty_folder}
 use Rattle.blocks.specs.declared.block.Block.{Block}
-use Rattle.register.specs.Folders.{Pair, Folder, below, made}
+use Rattle.register.specs.declared.pairs.Pair.{Pair}
+use Rattle.register.specs.Folders.{Folder, below, made}
 use Rattle.hashed.specs.Table.{folders_of, links_of, folder_at, pair_at, held_in, home_of, seek, Sound}
 use Rattle.hashed.proofs.Filings.{holds_gathered, made_new}
 use Rattle.hashed.proofs.Growth.{held_more, linked_more, ordered_more}

@@ -4,7 +4,8 @@ use Rattle.std.proofs.lemmas.List.{length-set, get_or-set_same, get_or-set_other
 use Rattle.std.proofs.lemmas.Bool.{cases_eq, lt-ltb}
 use Rattle.blocks.specs.Block.{empty_folder, with_rows}
 use Rattle.blocks.specs.Holding.{takes_row}
-use Rattle.register.specs.Folders.{Pair, Rows, Folder, holds, rows_of, changed, addable}
+use Rattle.register.specs.declared.pairs.Pair.{Pair}
+use Rattle.register.specs.Folders.{Rows, Folder, holds, rows_of, changed, addable, lowest}
 use Rattle.rows.specs.declared.row.Row.{Row}
 use Rattle.register.specs.Walks.{pairs_of}
 use Rattle.hashed.specs.Filing.{gathered}
@@ -15,10 +16,10 @@ use Rattle.hashed.proofs.Searches.{inside_all}
 
 module _ (fs : List Folder) (count b : ℕ) (v : Rows → Rows) (within : b < length fs) where
   other : (i : ℕ) → (i ≡ b → ⊥) → folder_at (set fs b (with_rows v (folder_at fs b))) i ≡ folder_at fs i
-  other i e = get_or-set_other fs b i (with_rows v (folder_at fs b)) (empty_folder (0, 0)) e
+  other i e = get_or-set_other fs b i (with_rows v (folder_at fs b)) (empty_folder lowest) e
 
   here : folder_at (set fs b (with_rows v (folder_at fs b))) b ≡ with_rows v (folder_at fs b)
-  here = get_or-set_same fs b (with_rows v (folder_at fs b)) (empty_folder (0, 0)) within
+  here = get_or-set_same fs b (with_rows v (folder_at fs b)) (empty_folder lowest) within
 
   pair_stays : (i : ℕ) → pair_at (set fs b (with_rows v (folder_at fs b))) i ≡ pair_at fs i
   pair_stays i =

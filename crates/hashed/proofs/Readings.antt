@@ -3,13 +3,14 @@ use Rattle.std.proofs.Common.{◌≡◌, ℕ, suc, ◌-◌, ◌<◌, Bool, true,
 use Rattle.std.proofs.lemmas.List.{get_or-map, map-set, set-get_or}
 use Rattle.blocks.specs.Block.{folder_of, empty_folder, with_rows}
 use Rattle.blocks.specs.declared.block.Block.{Block}
-use Rattle.register.specs.Folders.{Pair, Rows, no_rows, rows_of}
+use Rattle.register.specs.declared.pairs.Pair.{Pair}
+use Rattle.register.specs.Folders.{Rows, no_rows, rows_of, lowest}
 use Rattle.hashed.specs.Table.{folders_of, links_of, folder_at, pair_at, held_in, seek}
 use Rattle.hashed.proofs.Filings.{rows_found, rows_gathered}
 
 module _ (blocks : List Block) (i : ℕ) (d : Block) (h : i < length blocks) where
   pub folder_at_lem : folder_at (folders_of blocks) i ≡ folder_of (get_or blocks i d)
-  folder_at_lem = get_or-map folder_of blocks i d (empty_folder (0, 0)) h
+  folder_at_lem = get_or-map folder_of blocks i d (empty_folder lowest) h
 
   pub link_at : get_or (links_of blocks) i 0 ≡ (get_or blocks i d).link
   link_at = get_or-map (λ b. b.link) blocks i d 0 h
@@ -27,10 +28,10 @@ module _ (blocks : List Block) (i : ℕ) (d : Block) (h : i < length blocks) whe
 
   pub folder_set_if : (b : Block) (v : Rows → Rows) (r : Bool) → folder_of b ≡ cond r (with_rows v (folder_of (get_or blocks i d))) (folder_of (get_or blocks i d)) → folders_of (set blocks i b) ≡ cond r (set (folders_of blocks) i (with_rows v (folder_at (folders_of blocks) i))) (folders_of blocks)
   folder_set_if b v true w = folder_set b v w
-  folder_set_if b v false w = map-set folder_of blocks i b ∙ ap (set (folders_of blocks) i) (w ∙ sym folder_at_lem) ∙ set-get_or (folders_of blocks) i (empty_folder (0, 0))
+  folder_set_if b v false w = map-set folder_of blocks i b ∙ ap (set (folders_of blocks) i) (w ∙ sym folder_at_lem) ∙ set-get_or (folders_of blocks) i (empty_folder lowest)
 
-pub pair_at_lem : (blocks : List Block) (i : ℕ) (d e : Block) → i < length blocks → pair_at (folders_of blocks) i ≡ ((get_or blocks i d).system, (get_or blocks i e).view)
-pair_at_lem blocks i d e h = λ j. ((folder_at_lem blocks i d h j).pair.0, (folder_at_lem blocks i e h j).pair.1)
+pub pair_at_lem : (blocks : List Block) (i : ℕ) (d : Block) → i < length blocks → pair_at (folders_of blocks) i ≡ (get_or blocks i d).pair
+pair_at_lem blocks i d h = ap (λ f. f.pair) (folder_at_lem blocks i d h)
 
 -- the rows of a pair, by what was found of it
 module _ (blocks : List Block) (count : ℕ) (k : Pair) (found : ℕ) (is : found ≡ seek (pair_at (folders_of blocks)) k count) where

@@ -4,7 +4,8 @@ use Rattle.std.specs.List.{AllByRecursion}
 use Rattle.std.proofs.ByRecursion.{All-get_or, All-from_get_or, All-weaker}
 use Rattle.std.proofs.lemmas.List.{length-take-le, get_or-take, get_or-map, length-map, take_all}
 use Rattle.std.proofs.lemmas.Bool.{cases_Bool, both_ways}
-use Rattle.register.specs.Folders.{Pair, Folder, below, next_pair}
+use Rattle.register.specs.declared.pairs.Pair.{Pair}
+use Rattle.register.specs.Folders.{Folder, below, next_pair, lowest}
 use Rattle.register.specs.Walks.{pairs_of}
 use Rattle.register.proofs.PairOrder.{below_trans}
 use Rattle.register.proofs.Rising.{Under, Rising}
@@ -29,14 +30,14 @@ up_rises (f ∷ fs) up = (under_pairs f.pair fs up.0, up_rises fs up.1)
 not_below : (k p q : Pair) → below p q ≡ true → below k q ≡ false → below k p ≡ false
 not_below k p q h e = ⊎_elim (λ b. absurd (both_ways (below k q) e (below_trans k p q b h))) (λ b. b) (cases_Bool (below k p))
 
-rise_up : (k : Pair) (ps : List Pair) (mid : ℕ) → Rises ps → mid < length ps → below k (get_or ps mid (0, 0)) ≡ false → AllByRecursion (λ q. below k q ≡ false) (take (suc mid) ps)
+rise_up : (k : Pair) (ps : List Pair) (mid : ℕ) → Rises ps → mid < length ps → below k (get_or ps mid lowest) ≡ false → AllByRecursion (λ q. below k q ≡ false) (take (suc mid) ps)
 rise_up k [] mid r l h = absurd (omega arith)
 rise_up k (p ∷ ps) zero r l h = (h, tt)
 rise_up k (p ∷ ps) (suc m) r l h =
-    let a : below p (get_or ps m (0, 0)) ≡ true = All-get_or (λ q. below p q ≡ true) ps m (0, 0) (omega arith) r.0 in
-    (not_below k p (get_or ps m (0, 0)) a h, rise_up k ps m r.1 (omega arith) h)
+    let a : below p (get_or ps m lowest) ≡ true = All-get_or (λ q. below p q ≡ true) ps m lowest (omega arith) r.0 in
+    (not_below k p (get_or ps m lowest) a h, rise_up k ps m r.1 (omega arith) h)
 
-rise_down : (k : Pair) (ps : List Pair) (mid : ℕ) → Rises ps → mid < length ps → below k (get_or ps mid (0, 0)) ≡ true → AllByRecursion (λ q. below k q ≡ true) (drop mid ps)
+rise_down : (k : Pair) (ps : List Pair) (mid : ℕ) → Rises ps → mid < length ps → below k (get_or ps mid lowest) ≡ true → AllByRecursion (λ q. below k q ≡ true) (drop mid ps)
 rise_down k [] mid r l h = absurd (omega arith)
 rise_down k (p ∷ ps) zero r l h = (h, All-weaker (λ q. below p q ≡ true) (λ q. below k q ≡ true) (λ q a. below_trans k p q h a) ps r.0)
 rise_down k (p ∷ ps) (suc m) r l h = rise_down k ps m r.1 (omega arith) h
@@ -57,8 +58,8 @@ module _ (fs : List Folder) (order : List ℕ) (count : ℕ) (listed : count ≤
       All-from_get_or (λ b. b < count) (take count order) 0
       (λ i l. let h : i < count = omega (arith, length-take-le count order listed) in subst (λ (b : ℕ). b < count) (sym (get_or-take count order i 0 h)) (ordered.inside i h))
 
-  key_of : (mid : ℕ) → mid < count → get_or (keys fs order count) mid (0, 0) ≡ pair_at fs (get_or order mid 0)
-  key_of mid l = get_or-map (pair_at fs) (take count order) mid 0 (0, 0) (omega (arith, length-take-le count order listed)) ∙ ap (pair_at fs) (get_or-take count order mid 0 l)
+  key_of : (mid : ℕ) → mid < count → get_or (keys fs order count) mid lowest ≡ pair_at fs (get_or order mid 0)
+  key_of mid l = get_or-map (pair_at fs) (take count order) mid 0 lowest (omega (arith, length-take-le count order listed)) ∙ ap (pair_at fs) (get_or-take count order mid 0 l)
 
   pub up : (k : Pair) (mid : ℕ) → mid < count → below k (pair_at fs (get_or order mid 0)) ≡ false → AllByRecursion (λ q. below k q ≡ false) (take (mid + 1) (keys fs order count))
   up k mid l h =
@@ -74,12 +75,12 @@ module _ (fs : List Folder) (order : List ℕ) (count : ℕ) (listed : count ≤
 
   pub next_at : (k : Pair) (at : ℕ) → at < count → AllByRecursion (λ q. below k q ≡ false) (take at (keys fs order count)) → AllByRecursion (λ q. below k q ≡ true) (drop at (keys fs order count)) → next_pair k (held_in fs count) ≡ Some (pair_at fs (get_or order at 0))
   next_at k at l a b =
-      let e = ap (λ ps. get_or ps at (0, 0)) ordered.keyed in
-      let here : below k (get_or (keys fs order count) at (0, 0)) ≡ true = first_of (keys fs order count) at (omega (arith, long)) b in
+      let e = ap (λ ps. get_or ps at lowest) ordered.keyed in
+      let here : below k (get_or (keys fs order count) at lowest) ≡ true = first_of (keys fs order count) at (omega (arith, long)) b in
       next_some k (held_in fs count) at (omega (arith, long, ap length ordered.keyed)) (subst (λ (ps : List Pair). AllByRecursion (λ q. below k q ≡ false) (take at ps)) ordered.keyed a) (ap (below k) (sym e) ∙ here)
       ∙ ap Some (sym e ∙ key_of at l)
     where
-      first_of : (ps : List Pair) (i : ℕ) → i < length ps → AllByRecursion (λ q. below k q ≡ true) (drop i ps) → below k (get_or ps i (0, 0)) ≡ true
+      first_of : (ps : List Pair) (i : ℕ) → i < length ps → AllByRecursion (λ q. below k q ≡ true) (drop i ps) → below k (get_or ps i lowest) ≡ true
       first_of [] i l a = absurd (omega arith)
       first_of (p ∷ ps) zero l a = a.0
       first_of (p ∷ ps) (suc i) l a = first_of ps i (omega arith) a

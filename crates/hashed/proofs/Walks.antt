@@ -1,7 +1,8 @@
 -- The chains of blocks, and what a walk along one finds.
 use Rattle.std.proofs.Common.{◌≡◌, ℕ, zero, suc, ◌-◌, ◌<◌, ◌≤◌, true, false, eqb, List, length, get_or, sym, refl, ap, ◌∙◌, subst, arith}
 use Rattle.std.proofs.lemmas.Bool.{eqb-true, eqb-false, cond-true, cond-false, cond_both}
-use Rattle.register.specs.Folders.{Pair, Folder, same}
+use Rattle.register.specs.declared.pairs.Pair.{Pair}
+use Rattle.register.specs.Folders.{Folder, same}
 use Rattle.register.proofs.PairOrder.{same_is, refuted}
 use Rattle.hashed.specs.Table.{pair_at, home_of, last, seek, Linked}
 

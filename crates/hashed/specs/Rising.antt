@@ -3,7 +3,8 @@ use Rattle.std.specs.Prelude.{◌≡◌, ℕ, zero, suc, ◌≤◌, true, List, 
 use Rattle.std.proofs.Common.{sym, subst, arith}
 use Rattle.std.specs.List.{AllByRecursion}
 use Rattle.std.proofs.lemmas.Bool.{cond_both}
-use Rattle.register.specs.Folders.{Pair, Folder, below, same}
+use Rattle.register.specs.declared.pairs.Pair.{Pair}
+use Rattle.register.specs.Folders.{Folder, below, same}
 use Rattle.register.proofs.PairOrder.{same_is, else_above}
 use Rattle.register.proofs.Rising.{Under, Rising, under_lower}
 use Rattle.hashed.specs.Filing.{filed, gathered}

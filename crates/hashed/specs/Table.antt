@@ -2,7 +2,8 @@
 use Rattle.std.specs.Prelude.{◌≡◌, ℕ, zero, suc, ◌+◌, ◌*◌, ◌/◌, ◌%◌, ◌^◌, ◌<◌, ◌≤◌, min, cond, List, map, length, take, ◌==◌, slice_index, slice_index_or}
 use Rattle.blocks.specs.Block.{folder_of, empty_folder}
 use Rattle.blocks.specs.declared.block.Block.{Block}
-use Rattle.register.specs.Folders.{Pair, Folder, same}
+use Rattle.register.specs.declared.pairs.Pair.{Pair}
+use Rattle.register.specs.Folders.{Folder, same, lowest}
 use Rattle.register.specs.Walks.{pairs_of}
 use Rattle.hashed.specs.Filing.{gathered}
 
@@ -14,7 +15,7 @@ abbrev pub links_of : List Block → List ℕ
 links_of = map (λ b. b.link)
 
 abbrev pub folder_at : List Folder → ℕ → Folder
-folder_at fs i = slice_index_or fs i (empty_folder (0, 0))
+folder_at fs i = slice_index_or fs i (empty_folder lowest)
 
 abbrev pub pair_at : List Folder → ℕ → Pair
 pair_at fs i = (folder_at fs i).pair
@@ -25,7 +26,7 @@ held_in fs n = gathered (folder_at fs) n
 
 -- the chain of a pair: no proof but that of `home` in the code looks inside
 unfoldable pub home_of : Pair → ℕ → ℕ
-home_of p size = (p.0 * 11400714819323198485 % 2 ^ 64 + p.1) % 2 ^ 64 * 14029467366897019727 % 2 ^ 64 / 4294967296 % size
+home_of p size = (p.system * 11400714819323198485 % 2 ^ 64 + p.view) % 2 ^ 64 * 14029467366897019727 % 2 ^ 64 / 4294967296 % size
 
 -- one past the last of the first n blocks that belongs to the chain h; 0 where there is none
 abbrev pub last : (ℕ → Pair) → ℕ → ℕ → ℕ → ℕ

@@ -5,49 +5,51 @@ ghost use Rattle.register.specs.Folders.{same};
 ghost use Rattle.hashed.specs.Table.{folders_of, links_of, pair_at, home_of, seek, Linked};
 
 use blocks::block::Block;
+use register::pairs::Pair;
 
 // The chain of a pair, mixed by multiplication so that systems in a row come apart.
-pub(crate) fn home(system: u64, view: u16, size: usize) -> usize
+pub(crate) fn home(pair: Pair, size: usize) -> usize
     requires { 0 < size }
-    ensures value { result ≡ home_of (system, view) size }
+    ensures value { result ≡ home_of pair size }
     ensures below { result < size }
 {
-    let mixed = system
+    let mixed = pair
+        .system
         .wrapping_mul(11400714819323198485)
-        .wrapping_add(u64::from(view))
+        .wrapping_add(u64::from(pair.view))
         .wrapping_mul(14029467366897019727);
     (mixed / 4294967296) as usize % size
 }
 
 // Whether a block has a pair.
-fn is_of(block: &Block, system: u64, view: u16) -> bool
-    ensures { result ≡ same (system, view) (block.now.system, block.now.view) }
+fn is_of(block: &Block, pair: Pair) -> bool
+    ensures { result ≡ same pair block.now.pair }
 {
-    system == block.system && view == block.view
+    pair == block.pair
 }
 
 // Whether the block at a place has a pair.
-fn is_at(blocks: &[Block], at: usize, system: u64, view: u16) -> bool
+fn is_at(blocks: &[Block], at: usize, pair: Pair) -> bool
     requires { at < length blocks.now }
-    ensures { result ≡ same (system, view) (pair_at (folders_of blocks.now) at) }
+    ensures { result ≡ same pair (pair_at (folders_of blocks.now) at) }
 {
-    is_of(&blocks[at], system, view)
+    is_of(&blocks[at], pair)
 }
 
 // One past the place of a pair's block, and 0 where there is none: along the chain, which goes down.
-pub(crate) fn find(heads: &[u32], blocks: &[Block], count: usize, system: u64, view: u16) -> usize
+pub(crate) fn find(heads: &[u32], blocks: &[Block], count: usize, pair: Pair) -> usize
     requires within { count ≤ length blocks.now }
     requires headed { 0 < count → 0 < length heads.now }
     requires linked { Linked heads.now (folders_of blocks.now) (links_of blocks.now) count }
-    ensures value { result ≡ seek (pair_at (folders_of blocks.now)) (system, view) count }
+    ensures value { result ≡ seek (pair_at (folders_of blocks.now)) pair count }
     ensures within { result ≤ count }
 {
     if heads.len() == 0 {
         return 0;
     }
-    let mut at = heads[home(system, view, heads.len())] as usize;
+    let mut at = heads[home(pair, heads.len())] as usize;
     while at > 0 {
-        if is_at(blocks, at - 1, system, view) {
+        if is_at(blocks, at - 1, pair) {
             return at;
         }
         at = blocks[at - 1].link as usize;

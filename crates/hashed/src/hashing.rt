@@ -8,6 +8,7 @@ ghost use Rattle.hashed.specs.Table.{folders_of, links_of, pair_at, held_in, hom
 
 use crate::table::Table;
 use blocks::block::Block;
+use register::pairs::Pair;
 use register::registers::Register;
 use register::systems::MeteringSystem;
 use rows::kinds::Kind;
@@ -77,28 +78,28 @@ impl<'a> Register for Hashed<'a> {
         self.table.held()
     }
 
-    fn next(&self, system: u64, view: u16) -> Option<(u64, u16)> {
-        self.table.next(system, view)
+    fn next(&self, pair: Pair) -> Option<Pair> {
+        self.table.next(pair)
     }
 
-    fn count(&self, system: u64, view: u16, kind: Kind) -> usize {
-        self.table.count(system, view, kind)
+    fn count(&self, pair: Pair, kind: Kind) -> usize {
+        self.table.count(pair, kind)
     }
 
-    fn read(&self, system: u64, view: u16, kind: Kind, place: usize, row: &mut Option<Row>) {
-        *row = self.table.read(system, view, kind, place);
+    fn read(&self, pair: Pair, kind: Kind, place: usize, row: &mut Option<Row>) {
+        *row = self.table.read(pair, kind, place);
     }
 
     fn make(&mut self, system: MeteringSystem, view: u16) -> bool {
-        self.table.make(system.number(), view)
+        self.table.make(system.with_view(view))
     }
 
     fn cut(&mut self, system: MeteringSystem, view: u16, kind: Kind, day: u16) {
-        self.table.cut(system.number(), view, kind, day);
+        self.table.cut(system.with_view(view), kind, day);
     }
 
     fn add(&mut self, system: MeteringSystem, view: u16, row: Row) -> bool {
-        self.table.add(system.number(), view, row)
+        self.table.add(system.with_view(view), row)
     }
 
     fn clear(&mut self) {

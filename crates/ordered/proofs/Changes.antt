@@ -1,8 +1,9 @@
 -- What a change of one folder leaves of the others, and when entries are the folders so changed.
-use Rattle.std.proofs.Common.{◌≡◌, ℕ, suc, ◌≤◌, true, false, cond, ◌&&◌, ◌||◌, List, [], ◌∷◌, ◌++◌, length, get_or, drop, Some, None, Option, sym, refl, ap, ◌∙◌, subst, ⊎_elim, arith}
+use Rattle.std.proofs.Common.{◌≡◌, suc, ◌≤◌, true, false, cond, ◌&&◌, ◌||◌, List, [], ◌∷◌, ◌++◌, length, get_or, drop, Some, None, Option, sym, refl, ap, ◌∙◌, subst, ⊎_elim, arith}
 use Rattle.std.specs.List.{AllByRecursion}
 use Rattle.std.proofs.lemmas.Bool.{cond_both, cases_Bool, or_parts, and_left, and_right}
-use Rattle.register.specs.Folders.{Pair, Rows, Folder, below, same, rows_of, holds, made, changed, with_kind, same_kind, no_rows}
+use Rattle.register.specs.declared.pairs.Pair.{Pair}
+use Rattle.register.specs.Folders.{Rows, Folder, below, same, rows_of, holds, made, changed, with_kind, same_kind, no_rows}
 use Rattle.register.specs.Walks.{pairs_of}
 use Rattle.register.proofs.Rising.{Under, Rising}
 use Rattle.register.proofs.PairOrder.{below_not_same, above_not_same, above_not_below, same_is, is_same}
@@ -55,13 +56,13 @@ pub pinned : (gs : List Folder) (ys : List Entry) → in_order ys ≡ true → p
 pinned gs ys h e rows = sym (same_folders gs (folders_of ys) (rising ys h) e (λ q k. rows q k ∙ sym (rows_are q k ys h)))
 
 -- the pairs of entries in two parts
-pairs_step : (s v : ℕ) (o : Option Row) (xs ys : List Entry) → pairs_of (folders_of (xs ++ ys)) ≡ pairs_of (folders_of xs) ++ pairs_of (folders_of ys) → pairs_of (folders_of (entry s v o ∷ xs ++ ys)) ≡ pairs_of (folders_of (entry s v o ∷ xs)) ++ pairs_of (folders_of ys)
-pairs_step s v None xs ys h = ap (λ l. (s, v) ∷ l) h
-pairs_step s v (Some r) xs ys h = h
+pairs_step : (pair : Pair) (o : Option Row) (xs ys : List Entry) → pairs_of (folders_of (xs ++ ys)) ≡ pairs_of (folders_of xs) ++ pairs_of (folders_of ys) → pairs_of (folders_of (entry pair o ∷ xs ++ ys)) ≡ pairs_of (folders_of (entry pair o ∷ xs)) ++ pairs_of (folders_of ys)
+pairs_step pair None xs ys h = ap (λ l. pair ∷ l) h
+pairs_step pair (Some r) xs ys h = h
 
 pub pairs_append : (xs ys : List Entry) → pairs_of (folders_of (xs ++ ys)) ≡ pairs_of (folders_of xs) ++ pairs_of (folders_of ys)
 pairs_append [] ys = refl
-pairs_append (x ∷ xs) ys = pairs_step x.system x.view x.row xs ys (pairs_append xs ys)
+pairs_append (x ∷ xs) ys = pairs_step x.pair x.row xs ys (pairs_append xs ys)
 
 -- one folder changed
 pub pairs_changed : (p : Pair) (change : Rows → Rows) (fs : List Folder) → pairs_of (changed p change fs) ≡ pairs_of fs

@@ -4,7 +4,8 @@ use Rattle.std.specs.List.{AllByRecursion}
 use Rattle.std.proofs.ByRecursion.{All-weaker}
 use Rattle.std.proofs.lemmas.List.{append-nil, length-take}
 use Rattle.std.proofs.lemmas.Bool.{cases_Bool, both_ways, and_parts, and_from, cond_both, le-leb, lt-leb, eq-eqb}
-use Rattle.register.specs.Folders.{Pair, Folder, same, same_kind, rows_of, with_kind, kept_rows, cut_folders, no_rows}
+use Rattle.register.specs.declared.pairs.Pair.{Pair}
+use Rattle.register.specs.Folders.{Folder, same, same_kind, rows_of, with_kind, kept_rows, cut_folders, no_rows}
 use Rattle.register.specs.Walks.{pairs_of}
 use Rattle.register.proofs.PairOrder.{is_same}
 use Rattle.timeline.specs.Finding.{before}
@@ -13,7 +14,7 @@ use Rattle.rows.specs.Rows.{kind_of_row, start_of_row}
 use Rattle.rows.specs.declared.kinds.Kind.{Kind}
 use Rattle.rows.specs.declared.row.Row.{Row}
 use Rattle.ordered.specs.declared.entries.Entry.{Entry}
-use Rattle.ordered.specs.Keys.{pair_of, start_in, key_at, Before}
+use Rattle.ordered.specs.Keys.{start_in, key_at, Before}
 use Rattle.ordered.specs.Entries.{folders_of, is_folder, in_order, Part, Few}
 use Rattle.ordered.specs.Order.{entry}
 use Rattle.ordered.proofs.Meanings.{counted, rows_in, rows_are}
@@ -29,7 +30,7 @@ counted_all P here k (Some r) rs h a = cond_both (here && same_kind k (kind_of_r
 
 rows_in_all : (P : ℕ → Type 0) (p : Pair) (k : Kind) (xs : List Entry) → AllByRecursion (λ e. in_part p k e ≡ true → P (start_in e.row)) xs → AllByRecursion (λ r. P (start_of_row r)) (rows_in p k xs)
 rows_in_all P p k [] a = tt
-rows_in_all P p k (x ∷ xs) a = counted_all P (same p (pair_of x)) k x.row (rows_in p k xs) a.0 (rows_in_all P p k xs a.1)
+rows_in_all P p k (x ∷ xs) a = counted_all P (same p x.pair) k x.row (rows_in p k xs) a.0 (rows_in_all P p k xs a.1)
 
 -- the rows that start before the day, in front of those that do not
 kept_front : (day : ℕ) (rs qs : List Row) → AllByRecursion (λ r. start_of_row r < day) rs → AllByRecursion (λ r. day ≤ start_of_row r) qs → kept_rows day (rs ++ qs) ≡ rs
@@ -43,13 +44,13 @@ part_row : (here : Bool) (k : Kind) (o : Option Row) → (here && of_kind k o) �
 part_row here k None h = absurd (both_ways false refl (and_parts here false h).1)
 part_row here k (Some r) h = refl
 
-no_folders : (s v : ℕ) (o : Option Row) (xs : List Entry) → is_folder o ≡ false → folders_of xs ≡ [] → folders_of (entry s v o ∷ xs) ≡ []
-no_folders s v None xs n e = absurd (both_ways true n refl)
-no_folders s v (Some r) xs n e = e
+no_folders : (pair : Pair) (o : Option Row) (xs : List Entry) → is_folder o ≡ false → folders_of xs ≡ [] → folders_of (entry pair o ∷ xs) ≡ []
+no_folders pair None xs n e = absurd (both_ways true n refl)
+no_folders pair (Some r) xs n e = e
 
 rows_only : (xs : List Entry) → AllByRecursion (λ m. is_folder m.row ≡ false) xs → folders_of xs ≡ []
 rows_only [] a = refl
-rows_only (x ∷ xs) a = no_folders x.system x.view x.row xs a.0 (rows_only xs a.1)
+rows_only (x ∷ xs) a = no_folders x.pair x.row xs a.0 (rows_only xs a.1)
 
 -- what is in one part is in no other
 other_part : (p q : Pair) (k l : Kind) (e : Entry) → (same q p && same_kind l k) ≡ false → in_part p k e ≡ true → in_part q l e ≡ false
@@ -78,7 +79,7 @@ module _ (p : Pair) (k : Kind) (day : ℕ) (xs : List Entry) (from count : ℕ) 
   back = drop count (drop from xs)
 
   mid_rows : AllByRecursion (λ m. is_folder m.row ≡ false) mid
-  mid_rows = All-weaker (λ e. in_part p k e ≡ true) (λ m. is_folder m.row ≡ false) (λ e t. part_row (same p (pair_of e)) k e.row t) mid (part_all p k day xs from count part)
+  mid_rows = All-weaker (λ e. in_part p k e ≡ true) (λ m. is_folder m.row ≡ false) (λ e t. part_row (same p e.pair) k e.row t) mid (part_all p k day xs from count part)
 
   pub cut_order : in_order (front ++ back) ≡ true
   cut_order = remove_rows front mid back mid_rows (ap in_order (thirds p k day xs from count part) ∙ h)

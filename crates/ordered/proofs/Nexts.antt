@@ -4,41 +4,42 @@ use Rattle.std.specs.List.{AllByRecursion}
 use Rattle.std.proofs.ByRecursion.{All-weaker}
 use Rattle.std.proofs.lemmas.List.{take-append-drop, drop_all, drop_more}
 use Rattle.std.proofs.lemmas.Bool.{both_ways, and_parts, or_cases}
-use Rattle.register.specs.Folders.{Pair, below, same, next_pair}
+use Rattle.register.specs.declared.pairs.Pair.{Pair}
+use Rattle.register.specs.Folders.{below, same, next_pair}
 use Rattle.register.proofs.PairOrder.{same_is}
 use Rattle.rows.specs.declared.row.Row.{Row}
 use Rattle.ordered.specs.declared.entries.Entry.{Entry}
-use Rattle.ordered.specs.Keys.{pair_of, key_at, Before, NotBefore}
+use Rattle.ordered.specs.Keys.{key_at, Before, NotBefore}
 use Rattle.ordered.specs.Entries.{folders_of, is_folder, in_order_from, in_order}
 use Rattle.ordered.specs.Order.{entry, behind_rest, behind_pair}
 use Rattle.ordered.proofs.Probes.{past_pair, upto_pair}
 
-skip : (p : Pair) (s v : ℕ) (o : Option Row) (xs : List Entry) → below p (s, v) ≡ false → next_pair p (folders_of (entry s v o ∷ xs)) ≡ next_pair p (folders_of xs)
-skip p s v None xs h = ap (λ b. cond b (Some (s, v)) (next_pair p (folders_of xs))) h
-skip p s v (Some r) xs h = refl
+skip : (p : Pair) (pair : Pair) (o : Option Row) (xs : List Entry) → below p pair ≡ false → next_pair p (folders_of (entry pair o ∷ xs)) ≡ next_pair p (folders_of xs)
+skip p pair None xs h = ap (λ b. cond b (Some pair) (next_pair p (folders_of xs))) h
+skip p pair (Some r) xs h = refl
 
-skips : (p : Pair) (xs ys : List Entry) → AllByRecursion (λ e. below p (pair_of e) ≡ false) xs → next_pair p (folders_of (xs ++ ys)) ≡ next_pair p (folders_of ys)
+skips : (p : Pair) (xs ys : List Entry) → AllByRecursion (λ e. below p e.pair ≡ false) xs → next_pair p (folders_of (xs ++ ys)) ≡ next_pair p (folders_of ys)
 skips p [] ys h = refl
-skips p (x ∷ xs) ys h = skip p x.system x.view x.row (xs ++ ys) h.0 ∙ skips p xs ys h.1
+skips p (x ∷ xs) ys h = skip p x.pair x.row (xs ++ ys) h.0 ∙ skips p xs ys h.1
 
 -- the first entry above the pair is a folder's own
-folder_from : (p : Pair) (a : Entry) (fs : List Entry) (e : Entry) (bs : List Entry) → below p (pair_of a) ≡ false → AllByRecursion (λ x. below p (pair_of x) ≡ false) fs → below p (pair_of e) ≡ true → in_order_from a (fs ++ e ∷ bs) ≡ true → is_folder e.row ≡ true
+folder_from : (p : Pair) (a : Entry) (fs : List Entry) (e : Entry) (bs : List Entry) → below p a.pair ≡ false → AllByRecursion (λ x. below p x.pair ≡ false) fs → below p e.pair ≡ true → in_order_from a (fs ++ e ∷ bs) ≡ true → is_folder e.row ≡ true
 folder_from p a [] e bs n all b h =
-    ⊎_elim (λ t. t) (λ t. absurd (both_ways (below p (pair_of a)) n (ap (below p) (sym (same_is (pair_of e) (pair_of a) t)) ∙ b)))
-    (or_cases (is_folder e.row) (same (pair_of e) (pair_of a)) (behind_pair a e bs h))
+    ⊎_elim (λ t. t) (λ t. absurd (both_ways (below p a.pair) n (ap (below p) (sym (same_is e.pair a.pair t)) ∙ b)))
+    (or_cases (is_folder e.row) (same e.pair a.pair) (behind_pair a e bs h))
 folder_from p a (x ∷ fs) e bs n all b h = folder_from p x fs e bs all.0 all.1 b (behind_rest a x (fs ++ e ∷ bs) h)
 
-folder_first : (p : Pair) (fs : List Entry) (e : Entry) (bs : List Entry) → AllByRecursion (λ x. below p (pair_of x) ≡ false) fs → below p (pair_of e) ≡ true → in_order (fs ++ e ∷ bs) ≡ true → is_folder e.row ≡ true
+folder_first : (p : Pair) (fs : List Entry) (e : Entry) (bs : List Entry) → AllByRecursion (λ x. below p x.pair ≡ false) fs → below p e.pair ≡ true → in_order (fs ++ e ∷ bs) ≡ true → is_folder e.row ≡ true
 folder_first p [] e bs all b h = (and_parts (is_folder e.row) (in_order_from e bs) h).0
 folder_first p (a ∷ fs) e bs all b h = folder_from p a fs e bs all.0 all.1 b (and_parts (is_folder a.row) (in_order_from a (fs ++ e ∷ bs)) h).1
 
-here : (p : Pair) (s v : ℕ) (o : Option Row) (xs : List Entry) → is_folder o ≡ true → below p (s, v) ≡ true → Some (s, v) ≡ next_pair p (folders_of (entry s v o ∷ xs))
-here p s v None xs f b = sym (ap (λ t. cond t (Some (s, v)) (next_pair p (folders_of xs))) b)
-here p s v (Some r) xs f b = absurd (both_ways false refl f)
+here : (p : Pair) (pair : Pair) (o : Option Row) (xs : List Entry) → is_folder o ≡ true → below p pair ≡ true → Some pair ≡ next_pair p (folders_of (entry pair o ∷ xs))
+here p pair None xs f b = sym (ap (λ t. cond t (Some pair) (next_pair p (folders_of xs))) b)
+here p pair (Some r) xs f b = absurd (both_ways false refl f)
 
 module _ (p : Pair) (xs : List Entry) (at : ℕ) (h : in_order xs ≡ true) (before : AllByRecursion (Before (key_at p 11 0)) (take at xs)) (behind : AllByRecursion (NotBefore (key_at p 11 0)) (drop at xs)) where
-  upto : AllByRecursion (λ e. below p (pair_of e) ≡ false) (take at xs)
-  upto = All-weaker (Before (key_at p 11 0)) (λ e. below p (pair_of e) ≡ false) (λ e u. upto_pair p e u) (take at xs) before
+  upto : AllByRecursion (λ e. below p e.pair ≡ false) (take at xs)
+  upto = All-weaker (Before (key_at p 11 0)) (λ e. below p e.pair ≡ false) (λ e u. upto_pair p e u) (take at xs) before
 
   past : next_pair p (folders_of xs) ≡ next_pair p (folders_of (drop at xs))
   past = ap (λ l. next_pair p (folders_of l)) (sym (take-append-drop at xs)) ∙ skips p (take at xs) (drop at xs) upto
@@ -46,10 +47,10 @@ module _ (p : Pair) (xs : List Entry) (at : ℕ) (h : in_order xs ≡ true) (bef
   pub next_none : length xs ≤ at → None ≡ next_pair p (folders_of xs)
   next_none l = sym (past ∙ ap (λ r. next_pair p (folders_of r)) (drop_all at xs l))
 
-  pub next_some : at < length xs → (e : Entry) → e ≡ get_or xs at e → Some (pair_of e) ≡ next_pair p (folders_of xs)
+  pub next_some : at < length xs → (e : Entry) → e ≡ get_or xs at e → Some e.pair ≡ next_pair p (folders_of xs)
   next_some l e is =
       let split : drop at xs ≡ e ∷ drop (at + 1) xs = drop_more xs at e l ∙ ap (λ x. x ∷ drop (at + 1) xs) (sym is) in
-      let above : below p (pair_of e) ≡ true = past_pair p e (subst (AllByRecursion (NotBefore (key_at p 11 0))) split behind).0 in
+      let above : below p e.pair ≡ true = past_pair p e (subst (AllByRecursion (NotBefore (key_at p 11 0))) split behind).0 in
       let own : is_folder e.row ≡ true = folder_first p (take at xs) e (drop (at + 1) xs) upto above (ap in_order (ap (λ r. take at xs ++ r) (sym split) ∙ take-append-drop at xs) ∙ h) in
-      here p e.system e.view e.row (drop (at + 1) xs) own above
+      here p e.pair e.row (drop (at + 1) xs) own above
       ∙ sym (past ∙ ap (λ r. next_pair p (folders_of r)) split)

@@ -5,13 +5,14 @@ use Rattle.std.proofs.ByRecursion.{All-weaker, All-take}
 use Rattle.std.proofs.lemmas.List.{append-nil, length-take-le, length-drop, take-append-drop, take_rest, get_or-take, get_or-drop}
 use Rattle.std.proofs.lemmas.Option.{slice_get_past}
 use Rattle.std.proofs.lemmas.Bool.{both_ways, and_parts}
-use Rattle.register.specs.Folders.{Pair, same, same_kind, rows_of}
+use Rattle.register.specs.declared.pairs.Pair.{Pair}
+use Rattle.register.specs.Folders.{same, same_kind, rows_of}
 use Rattle.rows.specs.Kinds.{rank_of}
 use Rattle.rows.specs.Rows.{kind_of_row}
 use Rattle.rows.specs.declared.kinds.Kind.{Kind}
 use Rattle.rows.specs.declared.row.Row.{Row}
 use Rattle.ordered.specs.declared.entries.Entry.{Entry}
-use Rattle.ordered.specs.Keys.{pair_of, start_in, key_at, Before, NotBefore}
+use Rattle.ordered.specs.Keys.{start_in, key_at, Before, NotBefore}
 use Rattle.ordered.specs.Entries.{folders_of, in_order, Part}
 use Rattle.ordered.proofs.Meanings.{counted, rows_in, rows_are}
 use Rattle.ordered.proofs.Probes.{of_kind, in_part, before_part, behind_part, within_part}
@@ -22,7 +23,7 @@ counted_append here k (Some r) rs ss = elim (here && same_kind k (kind_of_row r)
 
 pub rows_in_append : (p : Pair) (k : Kind) (xs ys : List Entry) → rows_in p k (xs ++ ys) ≡ rows_in p k xs ++ rows_in p k ys
 rows_in_append p k [] ys = refl
-rows_in_append p k (x ∷ xs) ys = ap (counted (same p (pair_of x)) k x.row) (rows_in_append p k xs ys) ∙ counted_append (same p (pair_of x)) k x.row (rows_in p k xs) (rows_in p k ys)
+rows_in_append p k (x ∷ xs) ys = ap (counted (same p x.pair) k x.row) (rows_in_append p k xs ys) ∙ counted_append (same p x.pair) k x.row (rows_in p k xs) (rows_in p k ys)
 
 -- an entry outside the part does not count, and one inside does
 outside : (here : Bool) (k : Kind) (o : Option Row) (rs : List Row) → (here && of_kind k o) ≡ false → counted here k o rs ≡ rs
@@ -31,7 +32,7 @@ outside here k (Some r) rs h = ap (λ b. cond b (r ∷ rs) rs) h
 
 pub none_in : (p : Pair) (k : Kind) (xs : List Entry) → AllByRecursion (λ e. in_part p k e ≡ false) xs → rows_in p k xs ≡ []
 none_in p k [] h = refl
-none_in p k (x ∷ xs) h = outside (same p (pair_of x)) k x.row (rows_in p k xs) h.0 ∙ none_in p k xs h.1
+none_in p k (x ∷ xs) h = outside (same p x.pair) k x.row (rows_in p k xs) h.0 ∙ none_in p k xs h.1
 
 inside_length : (here : Bool) (k : Kind) (o : Option Row) (rs : List Row) → (here && of_kind k o) ≡ true → length (counted here k o rs) ≡ suc (length rs)
 inside_length here k None rs h = absurd (both_ways false refl (and_parts here false h).1)
@@ -39,7 +40,7 @@ inside_length here k (Some r) rs h = ap (λ b. length (cond b (r ∷ rs) rs)) h
 
 pub all_in_length : (p : Pair) (k : Kind) (xs : List Entry) → AllByRecursion (λ e. in_part p k e ≡ true) xs → length (rows_in p k xs) ≡ length xs
 all_in_length p k [] h = refl
-all_in_length p k (x ∷ xs) h = inside_length (same p (pair_of x)) k x.row (rows_in p k xs) h.0 ∙ ap suc (all_in_length p k xs h.1)
+all_in_length p k (x ∷ xs) h = inside_length (same p x.pair) k x.row (rows_in p k xs) h.0 ∙ ap suc (all_in_length p k xs h.1)
 
 inside_first : (here : Bool) (k : Kind) (o : Option Row) (rs : List Row) → (here && of_kind k o) ≡ true → slice_get (counted here k o rs) 0 ≡ o
 inside_first here k None rs h = absurd (both_ways false refl (and_parts here false h).1)
@@ -51,8 +52,8 @@ inside_rest here k (Some r) rs i h = ap (λ b. slice_get (cond b (r ∷ rs) rs) 
 
 pub all_in_nth : (p : Pair) (k : Kind) (xs : List Entry) (i : ℕ) (d : Entry) → AllByRecursion (λ e. in_part p k e ≡ true) xs → i < length xs → slice_get (rows_in p k xs) i ≡ (get_or xs i d).row
 all_in_nth p k [] i d h l = absurd (omega arith)
-all_in_nth p k (x ∷ xs) zero d h l = inside_first (same p (pair_of x)) k x.row (rows_in p k xs) h.0
-all_in_nth p k (x ∷ xs) (suc i) d h l = inside_rest (same p (pair_of x)) k x.row (rows_in p k xs) i h.0 ∙ all_in_nth p k xs i d h.1 (omega arith)
+all_in_nth p k (x ∷ xs) zero d h l = inside_first (same p x.pair) k x.row (rows_in p k xs) h.0
+all_in_nth p k (x ∷ xs) (suc i) d h l = inside_rest (same p x.pair) k x.row (rows_in p k xs) i h.0 ∙ all_in_nth p k xs i d h.1 (omega arith)
 
 both_all : {X : Type 0} (P Q R : X → Type 0) → ((x : X) → P x → Q x → R x) → (xs : List X) → AllByRecursion P xs → AllByRecursion Q xs → AllByRecursion R xs
 both_all P Q R f [] a b = tt

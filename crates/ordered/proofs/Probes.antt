@@ -1,8 +1,9 @@
 -- What it says of an entry to stand before a key, or not.
-use Rattle.std.proofs.Common.{◌≡◌, ℕ, suc, ◌<◌, ◌≤◌, Bool, true, false, ◌&&◌, ltb, ◌⊎◌, Some, None, Option, sym, refl, ap, subst, inl, inr, ⊎_elim, arith}
-use Rattle.std.proofs.lemmas.Bool.{cases_Bool, cases_lt, both_ways, and_parts, and_from, lt-ltb, ltb-true, eq-eqb, eqb-true}
-use Rattle.register.specs.Folders.{Pair, below, same, same_kind}
-use Rattle.register.proofs.PairOrder.{else_above, below_decides, never_below, below_trans, same_is, is_same}
+use Rattle.std.proofs.Common.{◌≡◌, ℕ, suc, ◌<◌, ◌≤◌, Bool, true, false, ◌&&◌, ltb, ◌⊎◌, Some, None, Option, sym, refl, ap, ◌∙◌, subst, inl, inr, ⊎_elim, arith}
+use Rattle.std.proofs.lemmas.Bool.{cases_Bool, cases_lt, both_ways, and_parts, and_from, or_left, or_right, lt-ltb, ltb-true, eq-eqb, eqb-true}
+use Rattle.register.specs.declared.pairs.Pair.{Pair}
+use Rattle.register.specs.Folders.{below, same, same_kind}
+use Rattle.register.proofs.PairOrder.{else_above, never_below, below_trans, same_is, is_same}
 use Rattle.rows.specs.Kinds.{rank_of}
 use Rattle.rows.specs.Rows.{kind_of_row}
 use Rattle.rows.specs.declared.kinds.Kind.{Kind}
@@ -10,27 +11,32 @@ use Rattle.rows.specs.declared.kinds.Kind.TheVariants.{Registration, Appointment
 use Rattle.rows.specs.declared.row.Row.{Row}
 use Rattle.ordered.specs.declared.entries.Entry.{Entry}
 use Rattle.ordered.specs.declared.entries.Key.{Key}
-use Rattle.ordered.specs.Keys.{pair_of, level_of, start_in, key_of, lower, key_at, Before, NotBefore}
-use Rattle.ordered.specs.Order.{inner, inner_onward, earlier_onward, earlier_read, earlier_less, earlier_same, lower_read}
+use Rattle.ordered.specs.Keys.{level_of, start_in, key_of, inner, lower, key_at, Before, NotBefore}
+use Rattle.ordered.specs.Order.{inner_onward, earlier_read, earlier_less, earlier_same, lower_read}
 
 cases_pair : (p q : Pair) → (p ≡ q) ⊎ ((below p q ≡ true) ⊎ (below q p ≡ true))
 cases_pair p q =
     ⊎_elim (λ t. inl (same_is p q t)) (λ n. inr (⊎_elim inl (λ m. inr (else_above p q n m)) (cases_Bool (below p q)))) (cases_Bool (same p q))
 
-pub lower_below : (k l : Key) → below (k.system, k.view) (l.system, l.view) ≡ true → lower k l ≡ true
-lower_below k l h =
-    ⊎_elim (λ m. earlier_less k.system l.system _ m)
-    (λ r. earlier_same k.system l.system _ r.0 (earlier_less k.view l.view (inner k.level k.start l.level l.start) r.1))
-    ((below_decides (k.system, k.view) (l.system, l.view)).0 h)
+pub lower_below : (k l : Key) → below k.pair l.pair ≡ true → lower k l ≡ true
+lower_below k l h = or_left (below k.pair l.pair) (same k.pair l.pair && inner k.level k.start l.level l.start) h
 
-pub lower_inner : (k l : Key) → k.system ≡ l.system → k.view ≡ l.view → inner k.level k.start l.level l.start ≡ true → lower k l ≡ true
-lower_inner k l a b h = earlier_same k.system l.system _ a (earlier_same k.view l.view (inner k.level k.start l.level l.start) b h)
+pub lower_inner : (k l : Key) → k.pair ≡ l.pair → inner k.level k.start l.level l.start ≡ true → lower k l ≡ true
+lower_inner k l e h =
+    or_right (below k.pair l.pair) (same k.pair l.pair && inner k.level k.start l.level l.start)
+    (and_from (same k.pair l.pair) (inner k.level k.start l.level l.start) (is_same k.pair l.pair e) h)
 
 pub lower_onward : (k l m : Key) → lower k l ≡ true → lower l m ≡ true → lower k m ≡ true
-lower_onward k l m =
-    earlier_onward k.system l.system m.system _ _ _
-    (earlier_onward k.view l.view m.view _ _ _
-    (inner_onward k.level k.start l.level l.start m.level m.start))
+lower_onward k l m h g =
+    ⊎_elim
+    (λ a.
+    lower_below k m
+    (⊎_elim (below_trans k.pair l.pair m.pair a) (λ b. subst (λ (p : Pair). below k.pair p ≡ true) b.0 a) (lower_read l m g)))
+    (λ a.
+    ⊎_elim (λ b. lower_below k m (subst (λ (p : Pair). below p m.pair ≡ true) (sym a.0) b))
+    (λ b. lower_inner k m (a.0 ∙ b.0) (inner_onward k.level k.start l.level l.start m.level m.start a.1 b.1))
+    (lower_read l m g))
+    (lower_read k l h)
 
 -- an entry is a row of a pair and a kind
 abbrev pub of_kind : Kind → Option Row → Bool
@@ -38,7 +44,7 @@ of_kind k None = false
 of_kind k (Some r) = same_kind k (kind_of_row r)
 
 abbrev pub in_part : Pair → Kind → Entry → Bool
-in_part p k e = same p (pair_of e) && of_kind k e.row
+in_part p k e = same p e.pair && of_kind k e.row
 
 pub rank_most : (k : Kind) → rank_of k ≤ 9
 rank_most Registration = omega arith
@@ -77,36 +83,36 @@ module _ (level start level' start' : ℕ) where
 
 module _ (p : Pair) (level start : ℕ) (e : Entry) where
   -- before the key: of a lower pair, or of the pair and within it before
-  pub stands_before : Before (key_at p level start) e → (below (pair_of e) p ≡ true) ⊎ ((pair_of e ≡ p) × ((level_of e.row < level) ⊎ ((level_of e.row ≡ level) × (start_in e.row < start))))
+  pub stands_before : Before (key_at p level start) e → (below e.pair p ≡ true) ⊎ ((e.pair ≡ p) × ((level_of e.row < level) ⊎ ((level_of e.row ≡ level) × (start_in e.row < start))))
   stands_before h = ⊎_elim inl (λ r. inr (r.0, inner_true (level_of e.row) (start_in e.row) level start r.1)) (lower_read (key_of e) (key_at p level start) h)
 
   -- not before it: of a higher pair, or of the pair and within it not before
-  pub stands_behind : NotBefore (key_at p level start) e → (below p (pair_of e) ≡ true) ⊎ ((pair_of e ≡ p) × (level ≤ level_of e.row) × (level_of e.row ≡ level → start ≤ start_in e.row))
+  pub stands_behind : NotBefore (key_at p level start) e → (below p e.pair ≡ true) ⊎ ((e.pair ≡ p) × (level ≤ level_of e.row) × (level_of e.row ≡ level → start ≤ start_in e.row))
   stands_behind h =
       ⊎_elim
       (λ q.
-      let inside : inner (level_of e.row) (start_in e.row) level start ≡ true → ⊥ = λ t. both_ways (lower (key_of e) (key_at p level start)) h (lower_inner (key_of e) (key_at p level start) (ap (λ r. r.0) q) (ap (λ r. r.1) q) t) in
+      let inside : inner (level_of e.row) (start_in e.row) level start ≡ true → ⊥ = λ t. both_ways (lower (key_of e) (key_at p level start)) h (lower_inner (key_of e) (key_at p level start) q t) in
       inr (
         q,
         ⊎_elim (λ l. absurd (inside (inner_less (level_of e.row) (start_in e.row) level start l))) (λ l. l) (cases_lt (level_of e.row) level),
         (λ d. ⊎_elim (λ l. absurd (inside (inner_same (level_of e.row) (start_in e.row) level start d l))) (λ l. l) (cases_lt (start_in e.row) start)),
       ))
       (⊎_elim (λ b. absurd (both_ways (lower (key_of e) (key_at p level start)) h (lower_below (key_of e) (key_at p level start) b))) inl)
-      (cases_pair (pair_of e) p)
+      (cases_pair e.pair p)
 
 -- the part of a kind among entries: from the key of its level on, before the key of the next
 module _ (p : Pair) (k : Kind) (e : Entry) where
-  pub in_part_lem : in_part p k e ≡ true → (pair_of e ≡ p) × (level_of e.row ≡ suc (rank_of k))
-  in_part_lem h = let t = and_parts (same p (pair_of e)) (of_kind k e.row) h in (sym (same_is p (pair_of e) t.0), level_of_lem k e.row t.1)
+  pub in_part_lem : in_part p k e ≡ true → (e.pair ≡ p) × (level_of e.row ≡ suc (rank_of k))
+  in_part_lem h = let t = and_parts (same p e.pair) (of_kind k e.row) h in (sym (same_is p e.pair t.0), level_of_lem k e.row t.1)
 
-  apart : (pair_of e ≡ p → level_of e.row ≡ suc (rank_of k) → ⊥) → in_part p k e ≡ false
+  apart : (e.pair ≡ p → level_of e.row ≡ suc (rank_of k) → ⊥) → in_part p k e ≡ false
   apart n = ⊎_elim (λ t. let h = in_part_lem t in absurd (n h.0 h.1)) (λ f. f) (cases_Bool (in_part p k e))
 
   -- a pair is not below itself
-  no_below : below (pair_of e) p ≡ true → pair_of e ≡ p → ⊥
+  no_below : below e.pair p ≡ true → e.pair ≡ p → ⊥
   no_below b q = never_below p (subst (λ (r : Pair). below r p ≡ true) q b)
 
-  no_above : below p (pair_of e) ≡ true → pair_of e ≡ p → ⊥
+  no_above : below p e.pair ≡ true → e.pair ≡ p → ⊥
   no_above b q = never_below p (subst (λ (r : Pair). below p r ≡ true) q b)
 
   pub before_part : Before (key_at p (suc (rank_of k)) 0) e → in_part p k e ≡ false
@@ -122,12 +128,12 @@ module _ (p : Pair) (k : Kind) (e : Entry) where
   pub within_part : (day : ℕ) → NotBefore (key_at p (suc (rank_of k)) day) e → Before (key_at p (suc (suc (rank_of k))) 0) e → (in_part p k e ≡ true) × (day ≤ start_in e.row)
   within_part day g h =
       ⊎_elim
-      (λ b. ⊎_elim (λ c. absurd (never_below p (below_trans p (pair_of e) p c b))) (λ r. absurd (no_below b r.0)) (stands_behind p (suc (rank_of k)) day e g))
+      (λ b. ⊎_elim (λ c. absurd (never_below p (below_trans p e.pair p c b))) (λ r. absurd (no_below b r.0)) (stands_behind p (suc (rank_of k)) day e g))
       (λ r.
       ⊎_elim (λ c. absurd (no_above c r.0))
       (λ t.
       let l : level_of e.row ≡ suc (rank_of k) = ⊎_elim (λ m. omega (arith, t.1)) (λ m. absurd (omega (arith, m.1))) r.1 in
-      (and_from (same p (pair_of e)) (of_kind k e.row) (is_same p (pair_of e) (sym r.0)) (of_level k e.row l), t.2 l))
+      (and_from (same p e.pair) (of_kind k e.row) (is_same p e.pair (sym r.0)) (of_level k e.row l), t.2 l))
       (stands_behind p (suc (rank_of k)) day e g))
       (stands_before p (suc (suc (rank_of k))) 0 e h)
 
@@ -138,20 +144,20 @@ module _ (p : Pair) (k : Kind) (e : Entry) where
 
 -- the entries of a pair: from its folder's key on, before the key past its last kind
 module _ (p : Pair) (e : Entry) where
-  pub before_pair : Before (key_at p 0 0) e → below (pair_of e) p ≡ true
+  pub before_pair : Before (key_at p 0 0) e → below e.pair p ≡ true
   before_pair h = ⊎_elim (λ b. b) (λ r. absurd (⊎_elim (λ m. omega arith) (λ m. omega (arith, m.1)) r.1)) (stands_before p 0 0 e h)
 
-  pub from_pair : NotBefore (key_at p 0 0) e → (pair_of e ≡ p) ⊎ (below p (pair_of e) ≡ true)
+  pub from_pair : NotBefore (key_at p 0 0) e → (e.pair ≡ p) ⊎ (below p e.pair ≡ true)
   from_pair h = ⊎_elim inr (λ r. inl r.0) (stands_behind p 0 0 e h)
 
-  pub past_pair : NotBefore (key_at p 11 0) e → below p (pair_of e) ≡ true
+  pub past_pair : NotBefore (key_at p 11 0) e → below p e.pair ≡ true
   past_pair h = ⊎_elim (λ b. b) (λ r. absurd (omega (arith, r.1, level_most e.row))) (stands_behind p 11 0 e h)
 
-  pub upto_pair : Before (key_at p 11 0) e → below p (pair_of e) ≡ false
+  pub upto_pair : Before (key_at p 11 0) e → below p e.pair ≡ false
   upto_pair h =
       ⊎_elim
       (λ b.
       absurd
-      (⊎_elim (λ c. never_below p (below_trans p (pair_of e) p b c)) (λ r. never_below p (subst (λ (q : Pair). below p q ≡ true) r.0 b))
+      (⊎_elim (λ c. never_below p (below_trans p e.pair p b c)) (λ r. never_below p (subst (λ (q : Pair). below p q ≡ true) r.0 b))
       (stands_before p 11 0 e h)))
-      (λ f. f) (cases_Bool (below p (pair_of e)))
+      (λ f. f) (cases_Bool (below p e.pair))

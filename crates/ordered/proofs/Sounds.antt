@@ -3,7 +3,8 @@ use Rattle.std.proofs.Common.{◌≡◌, ℕ, ◌+◌, ◌-◌, ◌<◌, ◌≤�
 use Rattle.std.specs.List.{insert}
 use Rattle.std.proofs.lemmas.List.{length-take-le}
 use Rattle.std.proofs.lemmas.Bool.{and_parts, or_left, or_right, lt-ltb, ltb-true}
-use Rattle.register.specs.Folders.{Pair, Folder, rows_of, holds, made, makeable, cut_folders, addable, added_folders, starts_after, with_kind, kept_rows}
+use Rattle.register.specs.declared.pairs.Pair.{Pair}
+use Rattle.register.specs.Folders.{Folder, rows_of, holds, made, makeable, cut_folders, addable, added_folders, starts_after, with_kind, kept_rows}
 use Rattle.register.proofs.Rising.{made_held}
 use Rattle.rows.specs.Kinds.{maximum_of}
 use Rattle.rows.specs.Rows.{kind_of_row}
@@ -47,14 +48,14 @@ module _ (memory : List Entry) (used : ℕ) (sound : Sound memory used) where
   place_within x at after put = omega (arith, put.within, used_is)
 
   module _ (memory' : List Entry) (same_length : length memory' ≡ length memory) where
-    pub added_sound : (s v at : ℕ) (r : Row) → addable (s, v) r (folders_in memory used) ≡ true → Put (entry s v (Some r)) xs at (added_folders (s, v) r (folders_in memory used)) → take (used + 1) memory' ≡ insert xs at (entry s v (Some r)) → Sound memory' (used + 1)
-    added_sound s v at r ok put e =
-        let folders : folders_of (take (used + 1) memory') ≡ added_folders (s, v) r (folders_of xs) = ap folders_of e ∙ put.folders in
+    pub added_sound : (pair : Pair) (at : ℕ) (r : Row) → addable pair r (folders_in memory used) ≡ true → Put (entry pair (Some r)) xs at (added_folders pair r (folders_in memory used)) → take (used + 1) memory' ≡ insert xs at (entry pair (Some r)) → Sound memory' (used + 1)
+    added_sound pair at r ok put e =
+        let folders : folders_of (take (used + 1) memory') ≡ added_folders pair r (folders_of xs) = ap folders_of e ∙ put.folders in
         record {
-          within = omega (arith, room_for_row (s, v) r ok);
+          within = omega (arith, room_for_row pair r ok);
           order = ap in_order e ∙ put.order;
-          few = few_added (s, v) r xs (take (used + 1) memory') ok folders sound.few;
-          enough = omega (arith, sound.enough, ap length folders, length_added (s, v) r (folders_of xs));
+          few = few_added pair r xs (take (used + 1) memory') ok folders sound.few;
+          enough = omega (arith, sound.enough, ap length folders, length_added pair r (folders_of xs));
         }
 
     module _ (p : Pair) (k : Kind) (day from count : ℕ) (part : Part p k day xs from count) (e : take (used - count) memory' ≡ take from xs ++ drop count (drop from xs)) where
@@ -84,15 +85,15 @@ module _ (memory : List Entry) (used held places : ℕ) (counted : Counted memor
       let sound = counted.sound in
       omega (arith, length_most ys sound.order sound.few, used_is memory used sound, counted.many, counted.enough)
 
-  pub made_counted : (memory' : List Entry) → length memory' ≡ length memory → (s v at : ℕ) → holds (s, v) (folders_in memory used) ≡ false → Put (entry s v None) ys at (made (s, v) (folders_in memory used)) → held < places → take (used + 1) memory' ≡ insert ys at (entry s v None) → Counted memory' (used + 1) (held + 1) places
-  made_counted memory' same_length s v at n put l e =
-      let folders : folders_of (take (used + 1) memory') ≡ made (s, v) (folders_of ys) = ap folders_of e ∙ put.folders in
-      let more : length (folders_of (take (used + 1) memory')) ≡ held + 1 = omega (arith, counted.many, ap length folders, length_made (s, v) (folders_of ys) n) in
+  pub made_counted : (memory' : List Entry) → length memory' ≡ length memory → (pair : Pair) (at : ℕ) → holds pair (folders_in memory used) ≡ false → Put (entry pair None) ys at (made pair (folders_in memory used)) → held < places → take (used + 1) memory' ≡ insert ys at (entry pair None) → Counted memory' (used + 1) (held + 1) places
+  made_counted memory' same_length pair at n put l e =
+      let folders : folders_of (take (used + 1) memory') ≡ made pair (folders_of ys) = ap folders_of e ∙ put.folders in
+      let more : length (folders_of (take (used + 1) memory')) ≡ held + 1 = omega (arith, counted.many, ap length folders, length_made pair (folders_of ys) n) in
       record {
         sound = record {
           within = omega (arith, room_for_folder l);
           order = ap in_order e ∙ put.order;
-          few = few_made (s, v) ys (take (used + 1) memory') n folders counted.sound.few;
+          few = few_made pair ys (take (used + 1) memory') n folders counted.sound.few;
           enough = omega (arith, counted.enough);
         };
         many = omega arith;

@@ -3,7 +3,8 @@ use Rattle.std.proofs.Common.{◌≡◌, ℕ, zero, suc, ◌+◌, ◌*◌, ◌<�
 use Rattle.std.specs.List.{AllByRecursion}
 use Rattle.std.proofs.lemmas.List.Sums.{sum_by-cons}
 use Rattle.std.proofs.lemmas.Bool.{both_ways, cases_Bool}
-use Rattle.register.specs.Folders.{Pair, Rows, Folder, same, rows_of, holds}
+use Rattle.register.specs.declared.pairs.Pair.{Pair}
+use Rattle.register.specs.Folders.{Rows, Folder, same, rows_of, holds}
 use Rattle.rows.specs.Kinds.{kinds, rank_of, maximum_of}
 use Rattle.rows.specs.declared.kinds.Kind.{Kind}
 use Rattle.rows.specs.declared.kinds.Kind.TheVariants.{Registration}
@@ -35,21 +36,21 @@ size_more (row.Group q) rows = omega arith
 size_more (row.Advance q) rows = omega arith
 size_more (row.Estimate q) rows = omega arith
 
-weigh_step : (s v : ℕ) (o : Option Row) (xs : List Entry) → length xs ≡ size (leading xs) + weight (folders_of xs) → suc (length xs) ≡ size (leading (entry s v o ∷ xs)) + weight (folders_of (entry s v o ∷ xs))
-weigh_step s v None xs e = omega arith
-weigh_step s v (Some r) xs e = omega (arith, size_more r (leading xs))
+weigh_step : (pair : Pair) (o : Option Row) (xs : List Entry) → length xs ≡ size (leading xs) + weight (folders_of xs) → suc (length xs) ≡ size (leading (entry pair o ∷ xs)) + weight (folders_of (entry pair o ∷ xs))
+weigh_step pair None xs e = omega arith
+weigh_step pair (Some r) xs e = omega (arith, size_more r (leading xs))
 
 weigh : (xs : List Entry) → length xs ≡ size (leading xs) + weight (folders_of xs)
 weigh [] = refl
-weigh (x ∷ xs) = weigh_step x.system x.view x.row xs (weigh xs)
+weigh (x ∷ xs) = weigh_step x.pair x.row xs (weigh xs)
 
-none_leads : (s v : ℕ) (o : Option Row) (xs : List Entry) → (is_folder o && in_order_from (entry s v o) xs) ≡ true → size (leading (entry s v o ∷ xs)) ≡ 0
-none_leads s v None xs h = refl
-none_leads s v (Some r) xs h = absurd (both_ways false refl h)
+none_leads : (pair : Pair) (o : Option Row) (xs : List Entry) → (is_folder o && in_order_from (entry pair o) xs) ≡ true → size (leading (entry pair o ∷ xs)) ≡ 0
+none_leads pair None xs h = refl
+none_leads pair (Some r) xs h = absurd (both_ways false refl h)
 
 weighs : (xs : List Entry) → in_order xs ≡ true → length xs ≡ weight (folders_of xs)
 weighs [] h = refl
-weighs (e ∷ es) h = omega (arith, weigh (e ∷ es), none_leads e.system e.view e.row es h)
+weighs (e ∷ es) h = omega (arith, weigh (e ∷ es), none_leads e.pair e.row es h)
 
 -- a folder is no heavier than a full one, and lighter where one kind is not full
 module _ (f : Folder) (few : FewIn f) where

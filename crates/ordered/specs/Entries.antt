@@ -1,13 +1,14 @@
 -- What the used entries mean: the folders that they are.
 use Rattle.std.specs.Prelude.{◌≡◌, ℕ, suc, ◌+◌, ◌*◌, ◌≤◌, Bool, true, false, cond, ◌&&◌, ◌||◌, List, [], ◌∷◌, length, take, drop, Some, None, sum_by, Option}
 use Rattle.std.specs.List.{insert, AllByRecursion}
-use Rattle.register.specs.Folders.{Pair, Rows, Folder, same, same_kind, no_rows, rows_of}
+use Rattle.register.specs.declared.pairs.Pair.{Pair}
+use Rattle.register.specs.Folders.{Rows, Folder, same, same_kind, no_rows, rows_of}
 use Rattle.rows.specs.Kinds.{kinds, rank_of, maximum_of}
 use Rattle.rows.specs.Rows.{kind_of_row}
 use Rattle.rows.specs.declared.kinds.Kind.{Kind}
 use Rattle.rows.specs.declared.row.Row.{Row}
 use Rattle.ordered.specs.declared.entries.Entry.{Entry}
-use Rattle.ordered.specs.Keys.{pair_of, key_of, lower, key_at, Before, NotBefore}
+use Rattle.ordered.specs.Keys.{key_of, lower, key_at, Before, NotBefore}
 
 -- a row more, in front of its kind
 abbrev pub with_row : Row → Rows → Rows
@@ -31,7 +32,7 @@ opened (Some r) f fs = fs
 -- the folders, each with the rows behind it
 abbrev pub folders_of : List Entry → List Folder
 folders_of [] = []
-folders_of (e ∷ es) = opened e.row (record { pair = pair_of e; rows = leading es }) (folders_of es)
+folders_of (e ∷ es) = opened e.row (record { pair = e.pair; rows = leading es }) (folders_of es)
 
 abbrev pub is_folder : Option Row → Bool
 is_folder None = true
@@ -39,7 +40,7 @@ is_folder (Some r) = false
 
 -- an entry may stand right behind another: it is above it, and a folder or of the same pair
 abbrev pub follows : Entry → Entry → Bool
-follows e x = lower (key_of e) (key_of x) && (is_folder x.row || same (pair_of x) (pair_of e))
+follows e x = lower (key_of e) (key_of x) && (is_folder x.row || same x.pair e.pair)
 
 abbrev pub in_order_from : Entry → List Entry → Bool
 in_order_from e [] = true

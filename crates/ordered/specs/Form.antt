@@ -5,7 +5,8 @@ use Rattle.std.specs.List.{AllByRecursion}
 use Rattle.std.proofs.ByRecursion.{All-weaker, All-get_or}
 use Rattle.std.proofs.lemmas.List.{length-map, get_or-map}
 use Rattle.std.proofs.lemmas.Bool.{cond_both, cases_Bool, and_parts, eqb-true, ltb-true}
-use Rattle.register.specs.Folders.{Pair, Rows, Folder, same, same_kind, rows_of, FolderInForm, Systems, InForm}
+use Rattle.register.specs.declared.pairs.Pair.{Pair}
+use Rattle.register.specs.Folders.{Rows, Folder, same, same_kind, rows_of, FolderInForm, Systems, InForm}
 use Rattle.register.proofs.Keeping.{all_systems}
 use Rattle.register.proofs.PairOrder.{below_not_same, same_is, is_same}
 use Rattle.register.proofs.Rising.{Under, Rising, under_lower, rising_ascends}
@@ -15,30 +16,30 @@ use Rattle.rows.specs.Rows.{kind_of_row, start_of_row}
 use Rattle.rows.specs.declared.kinds.Kind.{Kind}
 use Rattle.rows.specs.declared.row.Row.{Row}
 use Rattle.ordered.specs.declared.entries.Entry.{Entry}
-use Rattle.ordered.specs.Keys.{pair_of, level_of, start_in}
+use Rattle.ordered.specs.Keys.{level_of, start_in, inner}
 use Rattle.ordered.specs.Entries.{led, leading, folders_of, is_folder, in_order_from, in_order, Few}
-use Rattle.ordered.specs.Order.{inner, inner_onward, earlier_read, same_kind_lem, entry, behind_rest, behind_folder, behind_row, behind_inner}
+use Rattle.ordered.specs.Order.{inner_onward, earlier_read, same_kind_lem, entry, behind_rest, behind_folder, behind_row, behind_inner}
 
 -- the folders' pairs ascend
-above_step : (e : Entry) (s v : ℕ) (o : Option Row) (xs : List Entry) → in_order_from e (entry s v o ∷ xs) ≡ true → Under (s, v) (folders_of xs) → Under (pair_of e) (folders_of (entry s v o ∷ xs))
-above_step e s v None xs h rest = let b = behind_folder e s v xs h in (b, under_lower (pair_of e) (s, v) (folders_of xs) b rest)
-above_step e s v (Some r) xs h rest = subst (λ (p : Pair). Under p (folders_of xs)) (behind_row e s v r xs h) rest
+above_step : (e : Entry) (pair : Pair) (o : Option Row) (xs : List Entry) → in_order_from e (entry pair o ∷ xs) ≡ true → Under pair (folders_of xs) → Under e.pair (folders_of (entry pair o ∷ xs))
+above_step e pair None xs h rest = let b = behind_folder e pair xs h in (b, under_lower e.pair pair (folders_of xs) b rest)
+above_step e pair (Some r) xs h rest = subst (λ (p : Pair). Under p (folders_of xs)) (behind_row e pair r xs h) rest
 
-pub pairs_above : (e : Entry) (xs : List Entry) → in_order_from e xs ≡ true → Under (pair_of e) (folders_of xs)
+pub pairs_above : (e : Entry) (xs : List Entry) → in_order_from e xs ≡ true → Under e.pair (folders_of xs)
 pairs_above e [] h = tt
-pairs_above e (x ∷ xs) h = above_step e x.system x.view x.row xs h (pairs_above x xs (behind_rest e x xs h))
+pairs_above e (x ∷ xs) h = above_step e x.pair x.row xs h (pairs_above x xs (behind_rest e x xs h))
 
-rising_step : (s v : ℕ) (o : Option Row) (xs : List Entry) → Under (s, v) (folders_of xs) → Rising (folders_of xs) → Rising (folders_of (entry s v o ∷ xs))
-rising_step s v None xs a r = (a, r)
-rising_step s v (Some q) xs a r = r
+rising_step : (pair : Pair) (o : Option Row) (xs : List Entry) → Under pair (folders_of xs) → Rising (folders_of xs) → Rising (folders_of (entry pair o ∷ xs))
+rising_step pair None xs a r = (a, r)
+rising_step pair (Some q) xs a r = r
 
 pub rising_from : (e : Entry) (xs : List Entry) → in_order_from e xs ≡ true → Rising (folders_of xs)
 rising_from e [] h = tt
-rising_from e (x ∷ xs) h = let b = behind_rest e x xs h in rising_step x.system x.view x.row xs (pairs_above x xs b) (rising_from x xs b)
+rising_from e (x ∷ xs) h = let b = behind_rest e x xs h in rising_step x.pair x.row xs (pairs_above x xs b) (rising_from x xs b)
 
 pub rising : (xs : List Entry) → in_order xs ≡ true → Rising (folders_of xs)
 rising [] h = tt
-rising (e ∷ es) h = let b = (and_parts (is_folder e.row) (in_order_from e es) h).1 in rising_step e.system e.view e.row es (pairs_above e es b) (rising_from e es b)
+rising (e ∷ es) h = let b = (and_parts (is_folder e.row) (in_order_from e es) h).1 in rising_step e.pair e.row es (pairs_above e es b) (rising_from e es b)
 
 -- the rows of a kind are of that kind
 kinds_step : (k : Kind) (o : Option Row) (rows : Rows) → AllByRecursion (λ r. kind_of_row r ≡ k) (rows k) → AllByRecursion (λ r. kind_of_row r ≡ k) (led o rows k)
@@ -67,13 +68,13 @@ further_step a s k (Some r) rows h rest =
     cond_both (same_kind k (kind_of_row r)) (r ∷ rows k) (rows k) (Further a s k)
     (λ e. (subst (λ (n : ℕ). inner a s (suc n) (start_of_row r) ≡ true) (sym (eqb-true (rank_of k) (rank_of (kind_of_row r)) e)) h, on)) (λ _. on)
 
-further_row : (e : Entry) (s v : ℕ) (k : Kind) (o : Option Row) (xs : List Entry) → in_order_from e (entry s v o ∷ xs) ≡ true → Further (level_of o) (start_in o) k (leading xs k) → Further (level_of e.row) (start_in e.row) k (leading (entry s v o ∷ xs) k)
-further_row e s v k None xs h rest = tt
-further_row e s v k (Some r) xs h rest = further_step (level_of e.row) (start_in e.row) k (Some r) (leading xs) (behind_inner e s v r xs h) rest
+further_row : (e : Entry) (pair : Pair) (k : Kind) (o : Option Row) (xs : List Entry) → in_order_from e (entry pair o ∷ xs) ≡ true → Further (level_of o) (start_in o) k (leading xs k) → Further (level_of e.row) (start_in e.row) k (leading (entry pair o ∷ xs) k)
+further_row e pair k None xs h rest = tt
+further_row e pair k (Some r) xs h rest = further_step (level_of e.row) (start_in e.row) k (Some r) (leading xs) (behind_inner e pair r xs h) rest
 
 further_in : (e : Entry) (k : Kind) (xs : List Entry) → in_order_from e xs ≡ true → Further (level_of e.row) (start_in e.row) k (leading xs k)
 further_in e k [] h = tt
-further_in e k (x ∷ xs) h = further_row e x.system x.view k x.row xs h (further_in x k xs (behind_rest e x xs h))
+further_in e k (x ∷ xs) h = further_row e x.pair k x.row xs h (further_in x k xs (behind_rest e x xs h))
 
 -- so their starts ascend
 abbrev Up : List Row → Type 0
@@ -129,20 +130,20 @@ few_each (f ∷ fs) r h = (
       (cases_Bool (same p f.pair))),
 )
 
-form_step : (s v : ℕ) (o : Option Row) (xs : List Entry) → in_order_from (entry s v o) xs ≡ true → AllByRecursion FewIn (folders_of (entry s v o ∷ xs)) → (AllByRecursion FewIn (folders_of xs) → AllByRecursion FolderInForm (folders_of xs)) → AllByRecursion FolderInForm (folders_of (entry s v o ∷ xs))
-form_step s v None xs h few on = (
-  λ k. record { kinds = kinds_in k xs; starts = starts (leading xs k) (up_in (entry s v None) k xs h); few = few.0 k },
+form_step : (pair : Pair) (o : Option Row) (xs : List Entry) → in_order_from (entry pair o) xs ≡ true → AllByRecursion FewIn (folders_of (entry pair o ∷ xs)) → (AllByRecursion FewIn (folders_of xs) → AllByRecursion FolderInForm (folders_of xs)) → AllByRecursion FolderInForm (folders_of (entry pair o ∷ xs))
+form_step pair None xs h few on = (
+  λ k. record { kinds = kinds_in k xs; starts = starts (leading xs k) (up_in (entry pair None) k xs h); few = few.0 k },
   on few.1,
 )
-form_step s v (Some r) xs h few on = on few
+form_step pair (Some r) xs h few on = on few
 
 form_from : (e : Entry) (xs : List Entry) → in_order_from e xs ≡ true → AllByRecursion FewIn (folders_of xs) → AllByRecursion FolderInForm (folders_of xs)
 form_from e [] h few = tt
-form_from e (x ∷ xs) h few = let b = behind_rest e x xs h in form_step x.system x.view x.row xs b few (form_from x xs b)
+form_from e (x ∷ xs) h few = let b = behind_rest e x xs h in form_step x.pair x.row xs b few (form_from x xs b)
 
 form_in : (xs : List Entry) → in_order xs ≡ true → AllByRecursion FewIn (folders_of xs) → AllByRecursion FolderInForm (folders_of xs)
 form_in [] h few = tt
-form_in (e ∷ es) h few = let b = (and_parts (is_folder e.row) (in_order_from e es) h).1 in form_step e.system e.view e.row es b few (form_from e es b)
+form_in (e ∷ es) h few = let b = (and_parts (is_folder e.row) (in_order_from e es) h).1 in form_step e.pair e.row es b few (form_from e es b)
 
 pub in_form_lem : (places : ℕ) (xs : List Entry) → in_order xs ≡ true → Systems (folders_of xs) → Few xs → length (folders_of xs) ≤ places → InForm places (folders_of xs)
 in_form_lem places xs h systems few room =

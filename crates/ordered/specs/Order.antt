@@ -1,8 +1,9 @@
 -- What the tests of the order say. These lemmas stand here because a register's own promise rests on them.
-use Rattle.std.specs.Prelude.{◌≡◌, ℕ, ◌<◌, Bool, true, ◌||◌, ◌⊎◌, List, ◌∷◌, get_or, Some, None, Option, nat_lt, slice_index_or, refl}
+use Rattle.std.specs.Prelude.{◌≡◌, ℕ, ◌<◌, Bool, true, ◌&&◌, ◌||◌, ◌⊎◌, List, ◌∷◌, get_or, Some, None, Option, nat_lt, slice_index_or, refl}
 use Rattle.std.proofs.Common.{sym, ap, ◌∙◌, inl, inr, ⊎_elim, arith}
 use Rattle.std.proofs.lemmas.Bool.{lt-ltb, ltb-true, eq-eqb, eqb-true, and_parts, and_from, or_left, or_right, or_cases}
-use Rattle.register.specs.Folders.{Pair, below, same, same_kind}
+use Rattle.register.specs.declared.pairs.Pair.{Pair}
+use Rattle.register.specs.Folders.{below, same, same_kind}
 use Rattle.register.proofs.PairOrder.{never_below, same_is}
 use Rattle.rows.specs.Kinds.{rank_of, kinds}
 use Rattle.rows.specs.declared.kinds.Kind.{Kind}
@@ -10,7 +11,7 @@ use Rattle.rows.specs.declared.kinds.Kind.TheVariants.{Registration, Appointment
 use Rattle.rows.specs.declared.row.Row.{Row}
 use Rattle.ordered.specs.declared.entries.Entry.{Entry}
 use Rattle.ordered.specs.declared.entries.Key.{Key}
-use Rattle.ordered.specs.Keys.{pair_of, level_of, start_in, key_of, earlier, lower}
+use Rattle.ordered.specs.Keys.{level_of, start_in, key_of, earlier, inner, lower}
 use Rattle.ordered.specs.Entries.{is_folder, follows, in_order_from}
 
 pub earlier_less : (m n : ℕ) (b : Bool) → m < n → earlier m n b ≡ true
@@ -33,22 +34,14 @@ earlier_onward a b c t u w on h k =
 ltb_onward : (a b c : ℕ) → nat_lt a b ≡ true → nat_lt b c ≡ true → nat_lt a c ≡ true
 ltb_onward a b c h k = lt-ltb a c (omega (arith, ltb-true a b h, ltb-true b c k))
 
--- the order within a folder: by level, by start
-abbrev pub inner : ℕ → ℕ → ℕ → ℕ → Bool
-inner level start level' start' = earlier level level' (nat_lt start start')
-
 pub inner_onward : (a s b t c u : ℕ) → inner a s b t ≡ true → inner b t c u ≡ true → inner a s c u ≡ true
 inner_onward a s b t c u = earlier_onward a b c _ _ _ (ltb_onward s t u)
 
 -- one key before another: by the pair, or within it
-pub lower_read : (k l : Key) → lower k l ≡ true → (below (k.system, k.view) (l.system, l.view) ≡ true) ⊎ ((◌≡◌ {A = Pair} (k.system, k.view) (l.system, l.view)) × (inner k.level k.start l.level l.start ≡ true))
+pub lower_read : (k l : Key) → lower k l ≡ true → (below k.pair l.pair ≡ true) ⊎ ((k.pair ≡ l.pair) × (inner k.level k.start l.level l.start ≡ true))
 lower_read k l h =
-    ⊎_elim (λ m. inl (earlier_less k.system l.system (nat_lt k.view l.view) m))
-    (λ r.
-    ⊎_elim (λ m. inl (earlier_same k.system l.system (nat_lt k.view l.view) r.0 (lt-ltb k.view l.view m)))
-    (λ t. inr (λ i. (r.0 i, t.0 i), t.1))
-    (earlier_read k.view l.view (inner k.level k.start l.level l.start) r.1))
-    (earlier_read k.system l.system (earlier k.view l.view (inner k.level k.start l.level l.start)) h)
+    ⊎_elim inl (λ r. let t = and_parts (same k.pair l.pair) (inner k.level k.start l.level l.start) r in inr (same_is k.pair l.pair t.0, t.1))
+    (or_cases (below k.pair l.pair) (same k.pair l.pair && inner k.level k.start l.level l.start) h)
 
 -- a kind is known by its rank
 pub rank_back : (k : Kind) → slice_index_or kinds (rank_of k) Registration ≡ k
@@ -67,8 +60,8 @@ pub same_kind_lem : (k l : Kind) → same_kind k l ≡ true → k ≡ l
 same_kind_lem k l t = sym (rank_back k) ∙ ap (λ n. get_or kinds n Registration) (eqb-true (rank_of k) (rank_of l) t) ∙ rank_back l
 
 -- an entry by its parts
-abbrev pub entry : ℕ → ℕ → Option Row → Entry
-entry s v o = record { system = s; view = v; row = o }
+abbrev pub entry : Pair → Option Row → Entry
+entry pair o = record { pair = pair; row = o }
 
 -- what stands behind an entry: a folder of a higher pair, or a row of the same pair, further within it
 module _ (e x : Entry) (xs : List Entry) (h : in_order_from e (x ∷ xs) ≡ true) where
@@ -79,24 +72,24 @@ module _ (e x : Entry) (xs : List Entry) (h : in_order_from e (x ∷ xs) ≡ tru
   behind_rest = (and_parts (follows e x) (in_order_from x xs) h).1
 
   pub behind_lower : lower (key_of e) (key_of x) ≡ true
-  behind_lower = (and_parts (lower (key_of e) (key_of x)) (is_folder x.row || same (pair_of x) (pair_of e)) head).0
+  behind_lower = (and_parts (lower (key_of e) (key_of x)) (is_folder x.row || same x.pair e.pair) head).0
 
-  pub behind_pair : (is_folder x.row || same (pair_of x) (pair_of e)) ≡ true
-  behind_pair = (and_parts (lower (key_of e) (key_of x)) (is_folder x.row || same (pair_of x) (pair_of e)) head).1
+  pub behind_pair : (is_folder x.row || same x.pair e.pair) ≡ true
+  behind_pair = (and_parts (lower (key_of e) (key_of x)) (is_folder x.row || same x.pair e.pair) head).1
 
-pub folder_above : (e : Entry) (s v : ℕ) → lower (key_of e) (key_of (entry s v None)) ≡ true → below (pair_of e) (s, v) ≡ true
-folder_above e s v h =
+pub folder_above : (e : Entry) (pair : Pair) → lower (key_of e) (key_of (entry pair None)) ≡ true → below e.pair pair ≡ true
+folder_above e pair h =
     ⊎_elim (λ b. b)
     (λ r. ⊎_elim (λ l. absurd (omega arith)) (λ l. absurd (omega (arith, ltb-true (start_in e.row) 0 l.1))) (earlier_read (level_of e.row) 0 (nat_lt (start_in e.row) 0) r.1))
-    (lower_read (key_of e) (key_of (entry s v None)) h)
+    (lower_read (key_of e) (key_of (entry pair None)) h)
 
-pub behind_folder : (e : Entry) (s v : ℕ) (xs : List Entry) → in_order_from e (entry s v None ∷ xs) ≡ true → below (pair_of e) (s, v) ≡ true
-behind_folder e s v xs h = folder_above e s v (behind_lower e (entry s v None) xs h)
+pub behind_folder : (e : Entry) (pair : Pair) (xs : List Entry) → in_order_from e (entry pair None ∷ xs) ≡ true → below e.pair pair ≡ true
+behind_folder e pair xs h = folder_above e pair (behind_lower e (entry pair None) xs h)
 
-pub behind_row : (e : Entry) (s v : ℕ) (r : Row) (xs : List Entry) → in_order_from e (entry s v (Some r) ∷ xs) ≡ true → ◌≡◌ {A = Pair} (s, v) (pair_of e)
-behind_row e s v r xs h = same_is (s, v) (pair_of e) (behind_pair e (entry s v (Some r)) xs h)
+pub behind_row : (e : Entry) (pair : Pair) (r : Row) (xs : List Entry) → in_order_from e (entry pair (Some r) ∷ xs) ≡ true → pair ≡ e.pair
+behind_row e pair r xs h = same_is pair e.pair (behind_pair e (entry pair (Some r)) xs h)
 
-pub behind_inner : (e : Entry) (s v : ℕ) (r : Row) (xs : List Entry) → in_order_from e (entry s v (Some r) ∷ xs) ≡ true → inner (level_of e.row) (start_in e.row) (level_of (Some r)) (start_in (Some r)) ≡ true
-behind_inner e s v r xs h =
-    ⊎_elim (λ b. absurd (never_below (pair_of e) (ap (below (pair_of e)) (sym (behind_row e s v r xs h)) ∙ b))) (λ t. t.1)
-    (lower_read (key_of e) (key_of (entry s v (Some r))) (behind_lower e (entry s v (Some r)) xs h))
+pub behind_inner : (e : Entry) (pair : Pair) (r : Row) (xs : List Entry) → in_order_from e (entry pair (Some r) ∷ xs) ≡ true → inner (level_of e.row) (start_in e.row) (level_of (Some r)) (start_in (Some r)) ≡ true
+behind_inner e pair r xs h =
+    ⊎_elim (λ b. absurd (never_below e.pair (ap (below e.pair) (sym (behind_row e pair r xs h)) ∙ b))) (λ t. t.1)
+    (lower_read (key_of e) (key_of (entry pair (Some r))) (behind_lower e (entry pair (Some r)) xs h))

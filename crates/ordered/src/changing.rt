@@ -7,6 +7,7 @@ use crate::entries::Entry;
 use crate::finding::part;
 use crate::placing::{folder_place, row_place};
 use crate::shifting::{put, take_out};
+use register::pairs::Pair;
 use rows::kinds::Kind;
 use rows::row::Row;
 
@@ -16,58 +17,50 @@ pub(crate) fn make(
     used: &mut usize,
     held: &mut usize,
     places: usize,
-    system: u64,
-    view: u16,
+    pair: Pair,
 ) -> bool
     requires { Counted entries.old used.old held.old places }
     ensures counted { Counted entries.new used.new held.new places }
-    ensures answer { result ≡ makeable places (system, view) (folders_in entries.old used.old) }
-    ensures after { folders_in entries.new used.new ≡ (if result then made (system, view) (folders_in entries.old used.old) else folders_in entries.old used.old) }
+    ensures answer { result ≡ makeable places pair (folders_in entries.old used.old) }
+    ensures after { folders_in entries.new used.new ≡ (if result then made pair (folders_in entries.old used.old) else folders_in entries.old used.old) }
 {
     let count = *used;
-    let Some(at) = folder_place(&entries[..count], system, view) else {
+    let Some(at) = folder_place(&entries[..count], pair) else {
         return true;
     };
     if *held >= places {
         return false;
     }
-    put(entries, count, at, Entry::folder(system, view));
+    put(entries, count, at, Entry::folder(pair));
     *used = count + 1;
     *held += 1;
     true
 }
 
 // Adds a row to its folder, unless that is not there, the kind is full, or the row is too early.
-pub(crate) fn add(entries: &mut [Entry], used: &mut usize, system: u64, view: u16, row: Row) -> bool
+pub(crate) fn add(entries: &mut [Entry], used: &mut usize, pair: Pair, row: Row) -> bool
     requires { Sound entries.old used.old }
     ensures sound { Sound entries.new used.new }
-    ensures answer { result ≡ addable (system, view) row (folders_in entries.old used.old) }
-    ensures after { folders_in entries.new used.new ≡ (if result then added_folders (system, view) row (folders_in entries.old used.old) else folders_in entries.old used.old) }
+    ensures answer { result ≡ addable pair row (folders_in entries.old used.old) }
+    ensures after { folders_in entries.new used.new ≡ (if result then added_folders pair row (folders_in entries.old used.old) else folders_in entries.old used.old) }
 {
     let count = *used;
-    let Some(at) = row_place(&entries[..count], system, view, row) else {
+    let Some(at) = row_place(&entries[..count], pair, row) else {
         return false;
     };
-    put(entries, count, at, Entry::of_row(system, view, row));
+    put(entries, count, at, Entry::of_row(pair, row));
     *used = count + 1;
     true
 }
 
 // Drops the rows of one kind in one folder that start on or after a day.
-pub(crate) fn cut(
-    entries: &mut [Entry],
-    used: &mut usize,
-    system: u64,
-    view: u16,
-    kind: Kind,
-    day: u16,
-)
+pub(crate) fn cut(entries: &mut [Entry], used: &mut usize, pair: Pair, kind: Kind, day: u16)
     requires { Sound entries.old used.old }
     ensures sound { Sound entries.new used.new }
-    ensures after { folders_in entries.new used.new ≡ cut_folders (system, view) kind day (folders_in entries.old used.old) }
+    ensures after { folders_in entries.new used.new ≡ cut_folders pair kind day (folders_in entries.old used.old) }
 {
     let count = *used;
-    let (from, gone) = part(&entries[..count], system, view, kind, day);
+    let (from, gone) = part(&entries[..count], pair, kind, day);
     take_out(entries, count, from, gone);
     *used = count - gone;
 }

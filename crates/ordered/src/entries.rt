@@ -1,9 +1,10 @@
 // Entries: a folder of its own, or one of its rows.
 ghost use Rattle.std.specs.Prelude.{◌≡◌, suc, Some, None};
 ghost use Rattle.rows.specs.Kinds.{rank_of};
-ghost use Rattle.register.specs.Folders.{same};
-ghost use Rattle.ordered.specs.Keys.{pair_of, key_of, lower};
+ghost use Rattle.register.specs.Folders.{lowest};
+ghost use Rattle.ordered.specs.Keys.{key_of, lower};
 
+use register::pairs::Pair;
 use rows::dated::Dated;
 use rows::kinds::Kind;
 use rows::row::Row;
@@ -11,17 +12,15 @@ use rows::row::Row;
 // A folder, or a row of one.
 #[derive(Clone, Copy)]
 pub struct Entry {
-    pub(crate) system: u64,
-    pub(crate) view: u16,
+    pub(crate) pair: Pair,
     // none in the folder's own entry, which stands before those of its rows
     pub(crate) row: Option<Row>,
 }
 
 // Where an entry stands among the others.
-#[derive(Clone, Copy)]
+#[derive(Clone, Copy, Debug, PartialEq, Eq, PartialOrd, Ord)]
 pub(crate) struct Key {
-    pub(crate) system: u64,
-    pub(crate) view: u16,
+    pub(crate) pair: Pair,
     // 0 for the folder itself, then the kinds in their order
     pub(crate) level: usize,
     pub(crate) start: u16,
@@ -30,37 +29,26 @@ pub(crate) struct Key {
 impl Entry {
     // Fills memory that is lent to a register.
     pub fn blank() -> Entry
-        ensures { result ≡ record { system = 0; view = 0; row = None } }
+        ensures { result ≡ record { pair = lowest; row = None } }
     {
-        Entry::folder(0, 0)
+        Entry::folder(Pair { system: 0, view: 0 })
     }
 
     // The folder itself.
-    pub(crate) fn folder(system: u64, view: u16) -> Entry
-        ensures { result ≡ record { system = system; view = view; row = None } }
+    pub(crate) fn folder(pair: Pair) -> Entry
+        ensures { result ≡ record { pair = pair; row = None } }
     {
-        Entry {
-            system,
-            view,
-            row: None,
-        }
+        Entry { pair, row: None }
     }
 
     // A row of it.
-    pub(crate) fn of_row(system: u64, view: u16, row: Row) -> Entry
-        ensures { result ≡ record { system = system; view = view; row = Some row } }
+    pub(crate) fn of_row(pair: Pair, row: Row) -> Entry
+        ensures { result ≡ record { pair = pair; row = Some row } }
     {
         Entry {
-            system,
-            view,
+            pair,
             row: Some(row),
         }
-    }
-
-    pub(crate) fn is_of(&self, system: u64, view: u16) -> bool
-        ensures { result ≡ same (system, view) (pair_of self.now) }
-    {
-        system == self.system && view == self.view
     }
 
     pub(crate) fn key(&self) -> Key
@@ -71,8 +59,7 @@ impl Entry {
             Some(row) => (Key::level(row.kind()), row.start()),
         };
         Key {
-            system: self.system,
-            view: self.view,
+            pair: self.pair,
             level,
             start,
         }
@@ -90,15 +77,6 @@ impl Key {
     pub(crate) fn before(self, other: Key) -> bool
         ensures { result ≡ lower self other }
     {
-        if self.system != other.system {
-            return self.system < other.system;
-        }
-        if self.view != other.view {
-            return self.view < other.view;
-        }
-        if self.level != other.level {
-            return self.level < other.level;
-        }
-        self.start < other.start
+        self < other
     }
 }

@@ -6,6 +6,7 @@ ghost use Rattle.ordered.specs.Entries.{in_order, folders_of, Ascends, Part};
 ghost use Rattle.ordered.specs.Keys.{Before, NotBefore};
 
 use crate::entries::{Entry, Key};
+use register::pairs::Pair;
 use rows::kinds::Kind;
 use rows::row::Row;
 
@@ -30,26 +31,18 @@ pub(crate) fn locate(entries: &[Entry], key: Key) -> usize
 }
 
 // Where the rows of a pair and a kind stand that start on or after a day, and how many they are.
-pub(crate) fn part(
-    entries: &[Entry],
-    system: u64,
-    view: u16,
-    kind: Kind,
-    day: u16,
-) -> (usize, usize)
+pub(crate) fn part(entries: &[Entry], pair: Pair, kind: Kind, day: u16) -> (usize, usize)
     requires { in_order entries.now ≡ true }
-    ensures { Part (system, view) kind day entries.now result.0 result.1 }
+    ensures { Part pair kind day entries.now result.0 result.1 }
 {
     let level = Key::level(kind);
     let first = Key {
-        system,
-        view,
+        pair,
         level,
         start: day,
     };
     let next = Key {
-        system,
-        view,
+        pair,
         level: level + 1,
         start: 0,
     };
@@ -58,26 +51,20 @@ pub(crate) fn part(
 }
 
 // How many rows of a kind a folder has.
-pub(crate) fn count(entries: &[Entry], system: u64, view: u16, kind: Kind) -> usize
+pub(crate) fn count(entries: &[Entry], pair: Pair, kind: Kind) -> usize
     requires { in_order entries.now ≡ true }
-    ensures { result ≡ length (rows_of (system, view) (folders_of entries.now) kind) }
+    ensures { result ≡ length (rows_of pair (folders_of entries.now) kind) }
 {
-    let (_, count) = part(entries, system, view, kind, 0);
+    let (_, count) = part(entries, pair, kind, 0);
     count
 }
 
 // The row at a place of a kind.
-pub(crate) fn read(
-    entries: &[Entry],
-    system: u64,
-    view: u16,
-    kind: Kind,
-    place: usize,
-) -> Option<Row>
+pub(crate) fn read(entries: &[Entry], pair: Pair, kind: Kind, place: usize) -> Option<Row>
     requires { in_order entries.now ≡ true }
-    ensures { result ≡ slice_get (rows_of (system, view) (folders_of entries.now) kind) place }
+    ensures { result ≡ slice_get (rows_of pair (folders_of entries.now) kind) place }
 {
-    let (from, count) = part(entries, system, view, kind, 0);
+    let (from, count) = part(entries, pair, kind, 0);
     if place >= count {
         return None;
     }
@@ -85,13 +72,12 @@ pub(crate) fn read(
 }
 
 // The pair of the first folder above a pair: the first entry that is behind all of the pair's own.
-pub(crate) fn next(entries: &[Entry], system: u64, view: u16) -> Option<(u64, u16)>
+pub(crate) fn next(entries: &[Entry], pair: Pair) -> Option<Pair>
     requires { in_order entries.now ≡ true }
-    ensures { result ≡ next_pair (system, view) (folders_of entries.now) }
+    ensures { result ≡ next_pair pair (folders_of entries.now) }
 {
     let past = Key {
-        system,
-        view,
+        pair,
         level: Key::level(Kind::Estimate) + 1,
         start: 0,
     };
@@ -100,5 +86,5 @@ pub(crate) fn next(entries: &[Entry], system: u64, view: u16) -> Option<(u64, u1
         return None;
     }
     let entry = entries[at];
-    Some((entry.system, entry.view))
+    Some(entry.pair)
 }

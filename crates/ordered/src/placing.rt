@@ -5,16 +5,16 @@ ghost use Rattle.ordered.specs.Entries.{in_order, folders_of, Put};
 
 use crate::entries::{Entry, Key};
 use crate::finding::{locate, part};
+use register::pairs::Pair;
 use rows::row::Row;
 
 // The place of a folder that is not there yet.
-pub(crate) fn folder_place(entries: &[Entry], system: u64, view: u16) -> Option<usize>
+pub(crate) fn folder_place(entries: &[Entry], pair: Pair) -> Option<usize>
     requires { in_order entries.now ≡ true }
-    ensures { MatchOption result (holds (system, view) (folders_of entries.now) ≡ true) (λ at. (holds (system, view) (folders_of entries.now) ≡ false) × Put (record { system = system; view = view; row = None }) entries.now at (made (system, view) (folders_of entries.now))) }
+    ensures { MatchOption result (holds pair (folders_of entries.now) ≡ true) (λ at. (holds pair (folders_of entries.now) ≡ false) × Put (record { pair = pair; row = None }) entries.now at (made pair (folders_of entries.now))) }
 {
     let key = Key {
-        system,
-        view,
+        pair,
         level: 0,
         start: 0,
     };
@@ -22,19 +22,20 @@ pub(crate) fn folder_place(entries: &[Entry], system: u64, view: u16) -> Option<
     if at >= entries.len() {
         return Some(at);
     }
-    if entries[at].is_of(system, view) {
+    let entry = entries[at];
+    if pair == entry.pair {
         return None;
     }
     Some(at)
 }
 
 // The place of a row that can be added: behind those of its kind.
-pub(crate) fn row_place(entries: &[Entry], system: u64, view: u16, row: Row) -> Option<usize>
+pub(crate) fn row_place(entries: &[Entry], pair: Pair, row: Row) -> Option<usize>
     requires { in_order entries.now ≡ true }
-    ensures { MatchOption result (addable (system, view) row (folders_of entries.now) ≡ false) (λ at. (addable (system, view) row (folders_of entries.now) ≡ true) × Put (record { system = system; view = view; row = Some row }) entries.now at (added_folders (system, view) row (folders_of entries.now))) }
+    ensures { MatchOption result (addable pair row (folders_of entries.now) ≡ false) (λ at. (addable pair row (folders_of entries.now) ≡ true) × Put (record { pair = pair; row = Some row }) entries.now at (added_folders pair row (folders_of entries.now))) }
 {
     let kind = row.kind();
-    let (from, count) = part(entries, system, view, kind, 0);
+    let (from, count) = part(entries, pair, kind, 0);
     let at = from + count;
     if at == 0 {
         return None;
@@ -43,10 +44,11 @@ pub(crate) fn row_place(entries: &[Entry], system: u64, view: u16, row: Row) -> 
         return None;
     }
     let last = entries[at - 1];
-    if !last.is_of(system, view) {
+    let of_pair = pair == last.pair;
+    if !of_pair {
         return None;
     }
-    if !last.key().before(Entry::of_row(system, view, row).key()) {
+    if !last.key().before(Entry::of_row(pair, row).key()) {
         return None;
     }
     Some(at)

@@ -9,6 +9,7 @@ use crate::capacity::entries_per_folder;
 use crate::entries::Entry;
 use crate::finding;
 use crate::memory::Memory;
+use register::pairs::Pair;
 use register::registers::Register;
 use register::systems::MeteringSystem;
 use rows::kinds::Kind;
@@ -61,34 +62,28 @@ impl<'a> Register for Ordered<'a> {
         self.memory.held
     }
 
-    fn next(&self, system: u64, view: u16) -> Option<(u64, u16)> {
-        finding::next(&self.memory.entries[..self.memory.used], system, view)
+    fn next(&self, pair: Pair) -> Option<Pair> {
+        finding::next(&self.memory.entries[..self.memory.used], pair)
     }
 
-    fn count(&self, system: u64, view: u16, kind: Kind) -> usize {
-        finding::count(&self.memory.entries[..self.memory.used], system, view, kind)
+    fn count(&self, pair: Pair, kind: Kind) -> usize {
+        finding::count(&self.memory.entries[..self.memory.used], pair, kind)
     }
 
-    fn read(&self, system: u64, view: u16, kind: Kind, place: usize, row: &mut Option<Row>) {
-        *row = finding::read(
-            &self.memory.entries[..self.memory.used],
-            system,
-            view,
-            kind,
-            place,
-        );
+    fn read(&self, pair: Pair, kind: Kind, place: usize, row: &mut Option<Row>) {
+        *row = finding::read(&self.memory.entries[..self.memory.used], pair, kind, place);
     }
 
     fn make(&mut self, system: MeteringSystem, view: u16) -> bool {
-        self.memory.make(system.number(), view)
+        self.memory.make(system.with_view(view))
     }
 
     fn cut(&mut self, system: MeteringSystem, view: u16, kind: Kind, day: u16) {
-        self.memory.cut(system.number(), view, kind, day)
+        self.memory.cut(system.with_view(view), kind, day)
     }
 
     fn add(&mut self, system: MeteringSystem, view: u16, row: Row) -> bool {
-        self.memory.add(system.number(), view, row)
+        self.memory.add(system.with_view(view), row)
     }
 
     fn clear(&mut self) {

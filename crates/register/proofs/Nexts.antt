@@ -5,7 +5,7 @@ use Rattle.std.proofs.ByRecursion.{all_from_every}
 use Rattle.std.proofs.lemmas.List.{length-map}
 use Rattle.std.proofs.lemmas.Bool.{cond-true, cond-false}
 use Rattle.register.specs.declared.pairs.Pair.{Pair}
-use Rattle.register.specs.Folders.{Folder, below, next_pair, Systems}
+use Rattle.register.specs.Folders.{Folder, lowest, below, next_pair, Systems}
 use Rattle.register.specs.Walks.{above, pairs_of, taken}
 use Rattle.register.proofs.PairOrder.{below_decides, above_not_below, not_below_itself}
 use Rattle.register.proofs.Rising.{Under, Rising, under_lower}
@@ -50,13 +50,10 @@ pub fewer : (p q : Pair) (fs : List Folder) → pairs_of (above p fs) ≡ q ∷ 
 fewer p q fs e = omega (arith, ap length e, length-map (above p fs) (λ f. f.pair), length-map (above q fs) (λ f. f.pair))
 
 -- a walk begins below every metering system
-abbrev pub start : Pair
-start = record { system = 0; view = 0 }
-
-pub above_start : (fs : List Folder) → Systems fs → above start fs ≡ fs
+pub above_start : (fs : List Folder) → Systems fs → above lowest fs ≡ fs
 above_start fs h =
-    above_all start fs
-    (all_from_every (λ f. below start f.pair ≡ true) fs (λ i d _ l. (below_decides start (get_or fs i d).pair).1 (inl (h i d l).0)))
+    above_all lowest fs
+    (all_from_every (λ f. below lowest f.pair ≡ true) fs (λ i d _ l. (below_decides lowest (get_or fs i d).pair).1 (inl (h i d l).0)))
 
 -- an iterator that takes from what it shows gives all of that
 pub drained : {S A : Type 0} (steps : S → Option A → S → Type 0) (shown : S → List A) → ((s : S) (r : Option A) (t : S) → steps s r t → shown s ≡ taken r (shown t)) → (s : S) (xs : List A) → Drains steps s xs → xs ≡ shown s

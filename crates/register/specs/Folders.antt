@@ -15,6 +15,10 @@ use Rattle.register.specs.Systems.{Numbered}
 abbrev pub with_view : MeteringSystem → ℕ → Pair
 with_view s v = record { system = s.number; view = v }
 
+-- below every pair of a metering system
+abbrev pub lowest : Pair
+lowest = record { system = 0; view = 0 }
+
 -- the rows of each kind
 abbrev pub Rows : Type 0
 Rows = Kind → List Row

@@ -1,23 +1,24 @@
 // The folder in a block.
 ghost use Rattle.std.specs.Prelude.{◌≡◌, length, if◌then◌else◌};
 ghost use Rattle.std.specs.List.{slice_get};
+ghost use Rattle.register.specs.Folders.{lowest};
 ghost use Rattle.blocks.specs.Block.{folder_of, empty_folder, with_rows};
 ghost use Rattle.blocks.specs.Holding.{cut_rows, added_rows, takes_row};
 
 use crate::block::Block;
 use crate::contents::Contents;
+use register::pairs::Pair;
 use rows::kinds::Kind;
 use rows::row::Row;
 
 impl Block {
     // An empty folder.
-    pub fn new(system: u64, view: u16, link: u32) -> Block
-        ensures folder { folder_of result ≡ empty_folder (system, view) }
+    pub fn new(pair: Pair, link: u32) -> Block
+        ensures folder { folder_of result ≡ empty_folder pair }
         ensures link { result.link ≡ link }
     {
         Block {
-            system,
-            view,
+            pair,
             link,
             contents: Contents::empty(),
         }
@@ -25,9 +26,9 @@ impl Block {
 
     // What fills a place that has no folder yet.
     pub fn blank() -> Block
-        ensures { folder_of result ≡ empty_folder (0, 0) }
+        ensures { folder_of result ≡ empty_folder lowest }
     {
-        Block::new(0, 0, 0)
+        Block::new(Pair { system: 0, view: 0 }, 0)
     }
 
     // How many rows of a kind the folder has.

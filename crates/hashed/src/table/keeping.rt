@@ -8,30 +8,31 @@ use crate::changes::{add_at, cut_at};
 use crate::orders::insert;
 use crate::table::Table;
 use blocks::block::Block;
+use register::pairs::Pair;
 use rows::kinds::Kind;
 use rows::row::Row;
 
 impl<'a> Table<'a> {
     // An empty folder, if there is a place; a pair that is held changes nothing.
-    pub(crate) fn make(&mut self, system: u64, view: u16) -> bool
+    pub(crate) fn make(&mut self, pair: Pair) -> bool
         requires { SoundTable self.old }
         ensures sound { SoundTable self.new }
-        ensures answer { result ≡ makeable self.old.places (system, view) (table_folders self.old) }
-        ensures after { table_folders self.new ≡ (if result then made (system, view) (table_folders self.old) else table_folders self.old) }
+        ensures answer { result ≡ makeable self.old.places pair (table_folders self.old) }
+        ensures after { table_folders self.new ≡ (if result then made pair (table_folders self.old) else table_folders self.old) }
         ensures places { self.new.places ≡ self.old.places }
     {
         let used = self.count;
-        let found = self.find(system, view);
+        let found = self.find(pair);
         if found > 0 {
             return true;
         }
         if used >= self.places {
             return false;
         }
-        let at = self.locate(system, view);
-        let chain = home(system, view, self.heads.len());
+        let at = self.locate(pair);
+        let chain = home(pair, self.heads.len());
         let link = self.heads[chain];
-        self.blocks[used] = Block::new(system, view, link);
+        self.blocks[used] = Block::new(pair, link);
         self.heads[chain] = (used + 1) as u32;
         insert(self.order, used, at, used as u32);
         self.count = used + 1;
@@ -39,13 +40,13 @@ impl<'a> Table<'a> {
     }
 
     // Drops the rows of one kind in one folder that start on or after a day.
-    pub(crate) fn cut(&mut self, system: u64, view: u16, kind: Kind, day: u16)
+    pub(crate) fn cut(&mut self, pair: Pair, kind: Kind, day: u16)
         requires { SoundTable self.old }
         ensures sound { SoundTable self.new }
-        ensures after { table_folders self.new ≡ cut_folders (system, view) kind day (table_folders self.old) }
+        ensures after { table_folders self.new ≡ cut_folders pair kind day (table_folders self.old) }
         ensures places { self.new.places ≡ self.old.places }
     {
-        let found = self.find(system, view);
+        let found = self.find(pair);
         if found == 0 {
             return;
         }
@@ -53,14 +54,14 @@ impl<'a> Table<'a> {
     }
 
     // Appends a row to its kind in one folder.
-    pub(crate) fn add(&mut self, system: u64, view: u16, row: Row) -> bool
+    pub(crate) fn add(&mut self, pair: Pair, row: Row) -> bool
         requires { SoundTable self.old }
         ensures sound { SoundTable self.new }
-        ensures answer { result ≡ addable (system, view) row (table_folders self.old) }
-        ensures after { table_folders self.new ≡ (if result then added_folders (system, view) row (table_folders self.old) else table_folders self.old) }
+        ensures answer { result ≡ addable pair row (table_folders self.old) }
+        ensures after { table_folders self.new ≡ (if result then added_folders pair row (table_folders self.old) else table_folders self.old) }
         ensures places { self.new.places ≡ self.old.places }
     {
-        let found = self.find(system, view);
+        let found = self.find(pair);
         if found == 0 {
             return false;
         }

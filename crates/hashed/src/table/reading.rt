@@ -7,6 +7,7 @@ ghost use Rattle.hashed.specs.Table.{folders_of, pair_at, seek};
 
 use crate::table::Table;
 use crate::{chains, orders};
+use register::pairs::Pair;
 use rows::kinds::Kind;
 use rows::row::Row;
 
@@ -20,38 +21,38 @@ impl<'a> Table<'a> {
     }
 
     // One past the place of a pair's block, and 0 where there is none.
-    pub(crate) fn find(&self, system: u64, view: u16) -> usize
+    pub(crate) fn find(&self, pair: Pair) -> usize
         requires { SoundTable self.now }
-        ensures value { result ≡ seek (pair_at (folders_of self.now.blocks.now)) (system, view) self.now.count }
+        ensures value { result ≡ seek (pair_at (folders_of self.now.blocks.now)) pair self.now.count }
         ensures within { result ≤ self.now.count }
     {
-        chains::find(self.heads, self.blocks, self.count, system, view)
+        chains::find(self.heads, self.blocks, self.count, pair)
     }
 
     // The first place in the order whose pair comes after this one.
-    pub(crate) fn locate(&self, system: u64, view: u16) -> usize
+    pub(crate) fn locate(&self, pair: Pair) -> usize
         requires { SoundTable self.now }
         ensures within { result ≤ self.now.count }
-        ensures before { AllByRecursion (λ q. below (system, view) q ≡ false) (take result (map (pair_at (folders_of self.now.blocks.now)) (take self.now.count self.now.order.now))) }
-        ensures behind { AllByRecursion (λ q. below (system, view) q ≡ true) (drop result (map (pair_at (folders_of self.now.blocks.now)) (take self.now.count self.now.order.now))) }
+        ensures before { AllByRecursion (λ q. below pair q ≡ false) (take result (map (pair_at (folders_of self.now.blocks.now)) (take self.now.count self.now.order.now))) }
+        ensures behind { AllByRecursion (λ q. below pair q ≡ true) (drop result (map (pair_at (folders_of self.now.blocks.now)) (take self.now.count self.now.order.now))) }
     {
-        orders::locate(self.blocks, self.order, self.count, system, view)
+        orders::locate(self.blocks, self.order, self.count, pair)
     }
 
     // The smallest held pair above a given one.
-    pub(crate) fn next(&self, system: u64, view: u16) -> Option<(u64, u16)>
+    pub(crate) fn next(&self, pair: Pair) -> Option<Pair>
         requires { SoundTable self.now }
-        ensures { result ≡ next_pair (system, view) (table_folders self.now) }
+        ensures { result ≡ next_pair pair (table_folders self.now) }
     {
-        orders::next(self.blocks, self.order, self.count, system, view)
+        orders::next(self.blocks, self.order, self.count, pair)
     }
 
     // How many rows of a kind a folder has.
-    pub(crate) fn count(&self, system: u64, view: u16, kind: Kind) -> usize
+    pub(crate) fn count(&self, pair: Pair, kind: Kind) -> usize
         requires { SoundTable self.now }
-        ensures { result ≡ length (rows_of (system, view) (table_folders self.now) kind) }
+        ensures { result ≡ length (rows_of pair (table_folders self.now) kind) }
     {
-        let found = self.find(system, view);
+        let found = self.find(pair);
         if found == 0 {
             return 0;
         }
@@ -60,11 +61,11 @@ impl<'a> Table<'a> {
     }
 
     // The row at a place of a kind in a folder.
-    pub(crate) fn read(&self, system: u64, view: u16, kind: Kind, place: usize) -> Option<Row>
+    pub(crate) fn read(&self, pair: Pair, kind: Kind, place: usize) -> Option<Row>
         requires { SoundTable self.now }
-        ensures { result ≡ slice_get (rows_of (system, view) (table_folders self.now) kind) place }
+        ensures { result ≡ slice_get (rows_of pair (table_folders self.now) kind) place }
     {
-        let found = self.find(system, view);
+        let found = self.find(pair);
         if found == 0 {
             return None;
         }

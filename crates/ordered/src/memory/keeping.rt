@@ -5,47 +5,48 @@ ghost use Rattle.ordered.specs.Memory.{folders_held, CountedMemory};
 
 use crate::changing;
 use crate::memory::Memory;
+use register::pairs::Pair;
 use rows::kinds::Kind;
 use rows::row::Row;
 
 impl<'a> Memory<'a> {
-    pub(crate) fn make(&mut self, system: u64, view: u16) -> bool
+    pub(crate) fn make(&mut self, pair: Pair) -> bool
         requires { CountedMemory self.old }
         ensures counted { CountedMemory self.new }
-        ensures answer { result ≡ makeable self.old.places (system, view) (folders_held self.old) }
-        ensures after { folders_held self.new ≡ (if result then made (system, view) (folders_held self.old) else folders_held self.old) }
+        ensures answer { result ≡ makeable self.old.places pair (folders_held self.old) }
+        ensures after { folders_held self.new ≡ (if result then made pair (folders_held self.old) else folders_held self.old) }
         ensures places { self.new.places ≡ self.old.places }
     {
         let mut used = self.used;
         let mut held = self.held;
         let places = self.places;
-        let done = changing::make(self.entries, &mut used, &mut held, places, system, view);
+        let done = changing::make(self.entries, &mut used, &mut held, places, pair);
         self.used = used;
         self.held = held;
         done
     }
 
-    pub(crate) fn add(&mut self, system: u64, view: u16, row: Row) -> bool
+    pub(crate) fn add(&mut self, pair: Pair, row: Row) -> bool
         requires { CountedMemory self.old }
         ensures counted { CountedMemory self.new }
-        ensures answer { result ≡ addable (system, view) row (folders_held self.old) }
-        ensures after { folders_held self.new ≡ (if result then added_folders (system, view) row (folders_held self.old) else folders_held self.old) }
+        ensures answer { result ≡ addable pair row (folders_held self.old) }
+        ensures after { folders_held self.new ≡ (if result then added_folders pair row (folders_held self.old) else folders_held self.old) }
         ensures places { self.new.places ≡ self.old.places }
     {
         let mut used = self.used;
-        let done = changing::add(self.entries, &mut used, system, view, row);
+        let done = changing::add(self.entries, &mut used, pair, row);
         self.used = used;
         done
     }
 
-    pub(crate) fn cut(&mut self, system: u64, view: u16, kind: Kind, day: u16)
+    pub(crate) fn cut(&mut self, pair: Pair, kind: Kind, day: u16)
         requires { CountedMemory self.old }
         ensures counted { CountedMemory self.new }
-        ensures after { folders_held self.new ≡ cut_folders (system, view) kind day (folders_held self.old) }
+        ensures after { folders_held self.new ≡ cut_folders pair kind day (folders_held self.old) }
         ensures places { self.new.places ≡ self.old.places }
     {
         let mut used = self.used;
-        changing::cut(self.entries, &mut used, system, view, kind, day);
+        changing::cut(self.entries, &mut used, pair, kind, day);
         self.used = used;
     }
 

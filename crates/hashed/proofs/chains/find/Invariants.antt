@@ -4,7 +4,7 @@ use Rattle.hashed.proofs.Walks.{Walk}
 use Rattle.hashed.proofs.chains.find.Given as goal
 
 abbrev pub invariant-loop-at : goal.invariant-loop-at
-invariant-loop-at l = Walk (pair_at (folders_of l.blocks)) (length l.heads) (l.system, l.view) l.count l.at
+invariant-loop-at l = Walk (pair_at (folders_of l.blocks)) (length l.heads) l.pair l.count l.at
 
 abbrev pub decreases-loop-at : goal.decreases-loop-at
 decreases-loop-at l = l.at

@@ -6,4 +6,4 @@ use Rattle.hashed.proofs.chains.is_at.Goals as goal
 pub returns : goal.returns
 returns c =
     c.is_of.ensures
-    ∙ ap (λ f. same (c.args.system, c.args.view) f.pair) (sym (folder_read c.args.blocks.now c.args.at c.index-blocks-at.result c.requires c.index-blocks-at.is))
+    ∙ ap (λ f. same c.args.pair f.pair) (sym (folder_read c.args.blocks.now c.args.at c.index-blocks-at.result c.requires c.index-blocks-at.is))

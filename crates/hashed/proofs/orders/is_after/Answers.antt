@@ -6,4 +6,4 @@ use Rattle.hashed.proofs.orders.is_after.Goals as goal
 pub returns : goal.returns
 returns c =
     c.comes_after.ensures
-    ∙ ap (λ f. below (c.args.system, c.args.view) f.pair) (sym (folder_read c.args.blocks.now c.args.at c.index-blocks-at.result c.requires c.index-blocks-at.is))
+    ∙ ap (λ f. below c.args.pair f.pair) (sym (folder_read c.args.blocks.now c.args.at c.index-blocks-at.result c.requires c.index-blocks-at.is))

@@ -8,8 +8,8 @@ use Rattle.ordered.proofs.changing.make.Goals as goal
 pub returns-in_default : goal.returns-in_default
 returns-in_default c = record {
   counted = c.requires;
-  answer = make_answer c.args.entries.now c.args.used.now c.args.held.now c.args.places c.requires (c.args.system, c.args.view) c.in_default.ensures;
-  after = made_again c.args.entries.now c.args.used.now c.requires.sound (c.args.system, c.args.view) c.in_default.ensures;
+  answer = make_answer c.args.entries.now c.args.used.now c.args.held.now c.args.places c.requires c.args.pair c.in_default.ensures;
+  after = made_again c.args.entries.now c.args.used.now c.requires.sound c.args.pair c.in_default.ensures;
 }
 
 pub put-requires : goal.put-requires
@@ -22,9 +22,9 @@ pub returns : goal.returns
 returns c =
     let xs = take c.args.used.now c.args.entries.now in
     let put = c.in-Some.ensures.1 in
-    let is : take (c.args.used.now + 1) c.put.new.entries ≡ insert xs c.in-Some.at (entry c.args.system c.args.view None) = c.put.ensures ∙ ap (insert xs c.in-Some.at) c.folder.ensures in
+    let is : take (c.args.used.now + 1) c.put.new.entries ≡ insert xs c.in-Some.at (entry c.args.pair None) = c.put.ensures ∙ ap (insert xs c.in-Some.at) c.folder.ensures in
     record {
-      counted = made_counted c.args.entries.now c.args.used.now c.args.held.now c.args.places c.requires c.put.new.entries c.put.auto.entries c.args.system c.args.view c.in-Some.at c.in-Some.ensures.0 put c.if-held-places.false is;
-      answer = make_free c.args.entries.now c.args.used.now c.args.held.now c.args.places c.requires (c.args.system, c.args.view) c.if-held-places.false;
+      counted = made_counted c.args.entries.now c.args.used.now c.args.held.now c.args.places c.requires c.put.new.entries c.put.auto.entries c.args.pair c.in-Some.at c.in-Some.ensures.0 put c.if-held-places.false is;
+      answer = make_free c.args.entries.now c.args.used.now c.args.held.now c.args.places c.requires c.args.pair c.if-held-places.false;
       after = ap folders_of is ∙ put.folders;
     }

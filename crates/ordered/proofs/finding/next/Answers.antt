@@ -1,6 +1,6 @@
 use Rattle.std.proofs.Common.{◌≡◌, ℕ, ◌+◌, take, drop, subst, arith}
 use Rattle.std.specs.List.{AllByRecursion}
-use Rattle.register.specs.Folders.{Pair}
+use Rattle.register.specs.declared.pairs.Pair.{Pair}
 use Rattle.ordered.specs.Keys.{key_at, Before, NotBefore}
 use Rattle.ordered.proofs.Halves.{ascends}
 use Rattle.ordered.proofs.Nexts.{next_none, next_some}
@@ -11,7 +11,7 @@ locate-at-requires c = ascends c.args.entries.now c.requires
 
 pub returns-then-at-entries : goal.returns-then-at-entries
 returns-then-at-entries c =
-    let p : Pair = (c.args.system, c.args.view) in
+    let p : Pair = c.args.pair in
     let xs = c.args.entries.now in
     let at = c.locate-at.result in
     let level : c.level.result + 1 ≡ 11 = omega (arith, c.level.ensures) in
@@ -22,7 +22,7 @@ returns-then-at-entries c =
 
 pub returns : goal.returns
 returns c =
-    let p : Pair = (c.args.system, c.args.view) in
+    let p : Pair = c.args.pair in
     let xs = c.args.entries.now in
     let at = c.locate-at.result in
     let level : c.level.result + 1 ≡ 11 = omega (arith, c.level.ensures) in

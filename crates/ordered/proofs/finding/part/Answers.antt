@@ -17,4 +17,4 @@ pub returns : goal.returns
 returns c =
     let first = c.locate-from.ensures in
     let last = c.locate.ensures in
-    parted (c.args.system, c.args.view) c.args.kind c.args.day c.args.entries.now c.locate-from.result c.locate.result c.level-level.result c.level-level.ensures first.within first.before first.behind last.within last.before last.behind
+    parted c.args.pair c.args.kind c.args.day c.args.entries.now c.locate-from.result c.locate.result c.level-level.result c.level-level.ensures first.within first.before first.behind last.within last.before last.behind

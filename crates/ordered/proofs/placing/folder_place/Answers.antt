@@ -8,27 +8,25 @@ locate-at-requires c = ascends c.args.entries.now c.requires
 
 pub returns-then-at-entries : goal.returns-then-at-entries
 returns-then-at-entries c =
-    let s = c.args.system in
-    let v = c.args.view in
+    let pair = c.args.pair in
     let xs = c.args.entries.now in
     let at = c.locate-at.result in
     let found = c.locate-at.ensures in
-    let low = lower_pairs s v xs at c.requires found.before found.behind in
-    let high = no_pairs s v xs at c.requires found.before found.behind c.if-at-entries.true in
-    (unheld s v xs at c.requires found.within low high, put_folder s v xs at c.requires found.within low high)
+    let low = lower_pairs pair xs at c.requires found.before found.behind in
+    let high = no_pairs pair xs at c.requires found.before found.behind c.if-at-entries.true in
+    (unheld pair xs at c.requires found.within low high, put_folder pair xs at c.requires found.within low high)
 
-pub returns-then-is_of : goal.returns-then-is_of
-returns-then-is_of c =
+pub returns-then-eq : goal.returns-then-eq
+returns-then-eq c =
     let found = c.locate-at.ensures in
-    held_there c.args.system c.args.view c.args.entries.now c.locate-at.result c.requires found.before found.behind c.if-at-entries.false c.index-entries-at.result c.index-entries-at.is (sym c.if-is_of.ensures)
+    held_there c.args.pair c.args.entries.now c.locate-at.result c.requires found.before found.behind c.if-at-entries.false c.index-entries-at.result c.index-entries-at.is (sym c.if-eq.ensures)
 
 pub returns : goal.returns
 returns c =
-    let s = c.args.system in
-    let v = c.args.view in
+    let pair = c.args.pair in
     let xs = c.args.entries.now in
     let at = c.locate-at.result in
     let found = c.locate-at.ensures in
-    let low = lower_pairs s v xs at c.requires found.before found.behind in
-    let high = higher_pairs s v xs at c.requires found.before found.behind c.if-at-entries.false c.index-entries-at.result c.index-entries-at.is (sym c.if-is_of.ensures) in
-    (unheld s v xs at c.requires found.within low high, put_folder s v xs at c.requires found.within low high)
+    let low = lower_pairs pair xs at c.requires found.before found.behind in
+    let high = higher_pairs pair xs at c.requires found.before found.behind c.if-at-entries.false c.index-entries-at.result c.index-entries-at.is (sym c.if-eq.ensures) in
+    (unheld pair xs at c.requires found.within low high, put_folder pair xs at c.requires found.within low high)

@@ -1,5 +1,6 @@
 use Rattle.std.proofs.Common.{◌≡◌, Bool, true, false, cond, refl, ap}
-use Rattle.register.specs.Folders.{Pair, Rows, Folder}
+use Rattle.register.specs.declared.pairs.Pair.{Pair}
+use Rattle.register.specs.Folders.{Rows, Folder}
 use Rattle.rows.specs.Rows.{kind_of_row}
 use Rattle.blocks.specs.Holding.{added_rows, kind_rows}
 use Rattle.blocks.proofs.Ascents.{add_ascend}
@@ -17,6 +18,6 @@ returns c =
     let b = c.args.self.now in
     record {
       answer = c.add.ensures.answer;
-      folder = by_answer (b.system, b.view) c.add.result (added_rows c.args.row) (kind_rows b.contents) (kind_rows c.add.new.self) c.add.ensures.after;
+      folder = by_answer b.pair c.add.result (added_rows c.args.row) (kind_rows b.contents) (kind_rows c.add.new.self) c.add.ensures.after;
       link = refl;
     }

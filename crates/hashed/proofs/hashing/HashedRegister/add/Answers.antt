@@ -6,7 +6,7 @@ pub invariant_of-self : goal.invariant_of-self
 invariant_of-self c =
     let sound = c.add.ensures.sound in
     let fs = table_folders c.args.self.now.table in
-    let systems = systems_changed c.add.result (c.number.result, c.args.view) _ fs _ c.add.ensures.after c.args.self.now.systems in
+    let systems = systems_changed c.add.result c.with_view.result _ fs _ c.add.ensures.after c.args.self.now.systems in
     record {
       used = sound.used;
       narrow = sound.narrow;

@@ -7,7 +7,7 @@ pub invariant_of-self : goal.invariant_of-self
 invariant_of-self c =
     let sound = c.cut.ensures.sound in
     let fs = table_folders c.args.self.now.table in
-    let systems = systems_changed true (c.number.result, c.args.view) _ fs _ c.cut.ensures.after c.args.self.now.systems in
+    let systems = systems_changed true c.with_view.result _ fs _ c.cut.ensures.after c.args.self.now.systems in
     record {
       used = sound.used;
       narrow = sound.narrow;

@@ -3,7 +3,7 @@ use Rattle.std.proofs.lemmas.List.{length-map}
 use Rattle.std.proofs.lemmas.Bool.{and_left}
 use Rattle.blocks.specs.Block.{folder_of}
 use Rattle.blocks.specs.Holding.{added_rows}
-use Rattle.register.specs.Folders.{Pair}
+use Rattle.register.specs.declared.pairs.Pair.{Pair}
 use Rattle.hashed.specs.Table.{folders_of, links_of}
 use Rattle.hashed.proofs.OtherRows.{absent, takes_answer, held_if, sound_if}
 use Rattle.hashed.proofs.table.Table.add.Goals as goal
@@ -11,7 +11,7 @@ use Rattle.hashed.proofs.table.Table.add.Goals as goal
 pub returns-then-found-eq0 : goal.returns-then-found-eq0
 returns-then-found-eq0 c =
     let t = c.args.self.now in
-    let k : Pair = (c.args.system, c.args.view) in
+    let k : Pair = c.args.pair in
     record {
       sound = c.requires;
       answer = sym (and_left _ _ (absent (folders_of t.blocks.now) t.count k c.find-found.result c.find-found.ensures.value (omega arith)));
@@ -25,7 +25,7 @@ add_at-requires c = omega (arith, c.requires.used, c.requires.blocked, length-ma
 pub returns : goal.returns
 returns c =
     let t = c.args.self.now in
-    let k : Pair = (c.args.system, c.args.view) in
+    let k : Pair = c.args.pair in
     let fs = folders_of t.blocks.now in
     let v = added_rows c.args.row in
     let n = c.find-found.result in

@@ -2,7 +2,7 @@ use Rattle.std.proofs.Common.{◌-◌, ◌<◌, length, sym, refl, arith}
 use Rattle.std.proofs.lemmas.List.{length-map}
 use Rattle.blocks.specs.Block.{folder_of}
 use Rattle.blocks.specs.Holding.{cut_rows}
-use Rattle.register.specs.Folders.{Pair}
+use Rattle.register.specs.declared.pairs.Pair.{Pair}
 use Rattle.hashed.specs.Table.{folders_of, links_of, held_in}
 use Rattle.hashed.proofs.Filings.{changed_absent}
 use Rattle.hashed.proofs.OtherRows.{absent, held_now, sound_now}
@@ -14,7 +14,7 @@ cut_at-requires c = omega (arith, c.requires.used, c.requires.blocked, length-ma
 pub returns : goal.returns
 returns c =
     let t = c.args.self.now in
-    let k : Pair = (c.args.system, c.args.view) in
+    let k : Pair = c.args.pair in
     let fs = folders_of t.blocks.now in
     let v = cut_rows c.args.kind c.args.day in
     let n = c.find-found.result in
@@ -30,7 +30,7 @@ returns c =
 pub returns-then-found-eq0 : goal.returns-then-found-eq0
 returns-then-found-eq0 c =
     let t = c.args.self.now in
-    let k : Pair = (c.args.system, c.args.view) in
+    let k : Pair = c.args.pair in
     let fs = folders_of t.blocks.now in
     record {
       sound = c.requires;

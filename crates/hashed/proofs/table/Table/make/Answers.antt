@@ -2,7 +2,8 @@ use Rattle.std.proofs.Common.{◌≡◌, true, false, ltb, length, sym, refl, ap
 use Rattle.std.proofs.lemmas.List.{length-map}
 use Rattle.std.proofs.lemmas.Bool.{lt-ltb, le-ltb, or_left, or_right, or_from}
 use Rattle.blocks.specs.Block.{folder_of}
-use Rattle.register.specs.Folders.{Pair, holds}
+use Rattle.register.specs.declared.pairs.Pair.{Pair}
+use Rattle.register.specs.Folders.{holds}
 use Rattle.hashed.specs.Rising.{rising_gathered}
 use Rattle.hashed.specs.Table.{folders_of, links_of, folder_at, held_in}
 use Rattle.register.proofs.Rising.{made_held}
@@ -14,7 +15,7 @@ use Rattle.hashed.proofs.table.Table.make.Goals as goal
 pub returns-then-found-gt0 : goal.returns-then-found-gt0
 returns-then-found-gt0 c =
     let t = c.args.self.now in
-    let k : Pair = (c.args.system, c.args.view) in
+    let k : Pair = c.args.pair in
     let fs = folders_of t.blocks.now in
     let held : holds k (held_in fs t.count) ≡ true = holds_gathered (folder_at fs) k t.count ∙ ap (ltb 0) (sym c.find-found.ensures.value) ∙ lt-ltb 0 c.find-found.result (omega arith) in
     record {
@@ -27,7 +28,7 @@ returns-then-found-gt0 c =
 pub returns-then-used-self : goal.returns-then-used-self
 returns-then-used-self c =
     let t = c.args.self.now in
-    let k : Pair = (c.args.system, c.args.view) in
+    let k : Pair = c.args.pair in
     let fs = folders_of t.blocks.now in
     let held : holds k (held_in fs t.count) ≡ false = holds_gathered (folder_at fs) k t.count ∙ ap (ltb 0) (sym c.find-found.ensures.value) ∙ le-ltb 0 c.find-found.result (omega arith) in
     let long = long_held t.heads.now fs (links_of t.blocks.now) t.order.now t.count t.places c.requires in
@@ -44,7 +45,7 @@ bounds-self-used c = omega (arith, c.requires.blocked, length-map c.args.self.no
 pub returns : goal.returns
 returns c =
     let t = c.args.self.now in
-    let k : Pair = (c.args.system, c.args.view) in
+    let k : Pair = c.args.pair in
     let bs = t.blocks.now in
     let fs = folders_of bs in
     let none : c.find-found.result ≡ 0 = omega arith in

@@ -9,7 +9,7 @@ use Rattle.hashed.proofs.table.Table.read.Goals as goal
 pub returns-then-found-eq0 : goal.returns-then-found-eq0
 returns-then-found-eq0 c =
     ap (λ (rows : Rows). slice_get (rows c.args.kind) c.args.place)
-    (sym (rows_none c.args.self.now.blocks.now c.args.self.now.count (c.args.system, c.args.view) c.find-found.result c.find-found.ensures.value (omega arith)))
+    (sym (rows_none c.args.self.now.blocks.now c.args.self.now.count c.args.pair c.find-found.result c.find-found.ensures.value (omega arith)))
 
 pub bounds-blocks-found : goal.bounds-blocks-found
 bounds-blocks-found c = omega (arith, c.requires.used, c.requires.blocked, length-map c.args.self.now.blocks.now folder_of)
@@ -19,4 +19,4 @@ returns c =
     let h : c.find-found.result - 1 < length c.args.self.now.blocks.now = omega (arith, c.requires.used, c.requires.blocked, length-map c.args.self.now.blocks.now folder_of) in
     c.read.ensures
     ∙ ap (λ (rows : Rows). slice_get (rows c.args.kind) c.args.place)
-    (sym (rows_read c.args.self.now.blocks.now c.args.self.now.count (c.args.system, c.args.view) c.find-found.result c.find-found.ensures.value c.if-found-eq0.false c.index-blocks-found.result h c.index-blocks-found.is))
+    (sym (rows_read c.args.self.now.blocks.now c.args.self.now.count c.args.pair c.find-found.result c.find-found.ensures.value c.if-found-eq0.false c.index-blocks-found.result h c.index-blocks-found.is))

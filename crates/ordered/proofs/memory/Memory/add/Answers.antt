@@ -12,7 +12,7 @@ returns c =
     let fs = folders_held self in
     record {
       counted = counted_after self.entries.now self.used self.held self.places c.requires done.new.entries done.new.used done.auto.entries done.ensures.sound
-          (ap length done.ensures.after ∙ cond_both done.result (added_folders (c.args.system, c.args.view) c.args.row fs) fs (λ l. length l ≡ length fs) (λ _. length_added (c.args.system, c.args.view) c.args.row fs) (λ _. refl));
+          (ap length done.ensures.after ∙ cond_both done.result (added_folders c.args.pair c.args.row fs) fs (λ l. length l ≡ length fs) (λ _. length_added c.args.pair c.args.row fs) (λ _. refl));
       answer = done.ensures.answer;
       after = done.ensures.after;
       places = refl;

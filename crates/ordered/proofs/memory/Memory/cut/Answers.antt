@@ -9,7 +9,7 @@ returns c =
     let fs = folders_held self in
     record {
       counted = counted_after self.entries.now self.used self.held self.places c.requires c.cut.new.entries c.cut.new.used c.cut.auto.entries c.cut.ensures.sound
-          (ap length c.cut.ensures.after ∙ length_cut (c.args.system, c.args.view) c.args.kind c.args.day fs);
+          (ap length c.cut.ensures.after ∙ length_cut c.args.pair c.args.kind c.args.day fs);
       after = c.cut.ensures.after;
       places = refl;
     }
