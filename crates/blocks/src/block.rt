@@ -10,7 +10,8 @@ use register::pairs::Pair;
 #[derive(Clone, Copy)]
 pub struct Block {
     pub pair: Pair,
-    pub link: u32,
+    // the place of another block, if one is linked
+    pub link: Option<u32>,
     contents: Contents,
     ghost ascend: { StartsAscend contents },
 }

@@ -225,7 +225,7 @@ mod tests {
     // Both registers over memory for so many folders, worked through the table.
     fn with_places(rt: &impl Abort, places: usize, by_table: bool) {
         let mut entries = [Entry::blank(); 4 * 97];
-        let mut heads = [7; 5];
+        let mut heads = [Some(7); 5];
         let mut blocks = [Block::blank(); 4];
         let mut order = [9; 4];
         let mut ordered = Ordered::over(&mut entries, places);
@@ -260,7 +260,7 @@ mod tests {
         Ordered::over(entries, 30_000).places()
     }
 
-    fn hashed_places(heads: &mut [u32], blocks: &mut [Block], order: &mut [u32]) -> usize {
+    fn hashed_places(heads: &mut [Option<u32>], blocks: &mut [Block], order: &mut [u32]) -> usize {
         Hashed::over(heads, blocks, order, 30_000).places()
     }
 
@@ -273,10 +273,10 @@ mod tests {
         assert_eq!(rt; ordered_places(&mut [Entry::blank(); 96]), 0);
         assert_eq!(rt; ordered_places(&mut []), 0);
         let mut blocks = [Block::blank(); 3];
-        assert_eq!(rt; hashed_places(&mut [0; 1], &mut blocks, &mut [0; 4]), 3);
-        assert_eq!(rt; hashed_places(&mut [0; 1], &mut blocks, &mut [0; 2]), 2);
+        assert_eq!(rt; hashed_places(&mut [Some(0); 1], &mut blocks, &mut [0; 4]), 3);
+        assert_eq!(rt; hashed_places(&mut [Some(0); 1], &mut blocks, &mut [0; 2]), 2);
         assert_eq!(rt; hashed_places(&mut [], &mut blocks, &mut [0; 4]), 0);
-        assert_eq!(rt; hashed_places(&mut [0; 1], &mut [], &mut [0; 4]), 0);
+        assert_eq!(rt; hashed_places(&mut [Some(0); 1], &mut [], &mut [0; 4]), 0);
     }
 
     static STEPS: [(Call, Answer); 360] = [

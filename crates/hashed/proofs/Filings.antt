@@ -1,7 +1,8 @@
 -- What a folder more makes of filed folders, and what is found among them.
-use Rattle.std.proofs.Common.{◌≡◌, ℕ, zero, suc, ◌<◌, ◌≤◌, Bool, true, false, cond, ◌||◌, ltb, List, [], ◌∷◌, length, get_or, take, Some, None, sym, refl, ap, ◌∙◌, subst, ⊎_elim, arith}
+use Rattle.std.proofs.Common.{◌≡◌, ℕ, zero, suc, ◌<◌, Bool, true, false, cond, ◌||◌, List, [], ◌∷◌, length, get_or, take, Some, None, Option, IfSome, is_some, sym, refl, ap, ◌∙◌, subst, ⊎_elim, arith}
 use Rattle.std.specs.List.{AllByRecursion}
-use Rattle.std.proofs.lemmas.Bool.{cond-true, cond-false, cond_both, cases_Bool, or_parts, both_ways, lt-ltb}
+use Rattle.std.proofs.lemmas.Option.{IfSome_then, none-some}
+use Rattle.std.proofs.lemmas.Bool.{true≢false, cond-true, cond-false, cond_both, cases_Bool, or_parts, both_ways}
 use Rattle.blocks.specs.Block.{empty_folder, with_rows}
 use Rattle.register.specs.declared.pairs.Pair.{Pair}
 use Rattle.register.specs.Folders.{Rows, Folder, same, below, no_rows, holds, rows_of, changed, made, next_pair, lowest}
@@ -29,6 +30,14 @@ cond_swap true true x y z h = absurd (h refl refl)
 cond_swap true false x y z h = refl
 cond_swap false true x y z h = refl
 cond_swap false false x y z h = refl
+
+abbrev value : Option ℕ → ℕ
+value None = 0
+value (Some b) = b
+
+pub none_is : (r : Option ℕ) → is_some r ≡ false → r ≡ None
+none_is None e = refl
+none_is (Some b) e = absurd (true≢false e)
 
 -- a function of one of three, case by case
 by_three : {X Y : Type 0} (h : X → Y) (a b : Bool) (x y z : X) (x' y' z' : Y) → (a ≡ true → h x ≡ x') → (a ≡ false → b ≡ true → h y ≡ y') → (a ≡ false → b ≡ false → h z ≡ z') → h (cond a x (cond b y z)) ≡ cond a x' (cond b y' z')
@@ -82,21 +91,21 @@ changed_other k v f (g ∷ gs) h =
     (cases_Bool (same k g.pair))
 
 -- what is sought by its pair is what the filed folders have of it
-pub holds_gathered : (f : ℕ → Folder) (k : Pair) (n : ℕ) → holds k (gathered f n) ≡ ltb 0 (seek (λ i. (f i).pair) k n)
+pub holds_gathered : (f : ℕ → Folder) (k : Pair) (n : ℕ) → holds k (gathered f n) ≡ is_some (seek (λ i. (f i).pair) k n)
 holds_gathered f k zero = refl
 holds_gathered f k (suc n) =
     holds_filed k (f n) (gathered f n)
     ∙ ap (λ b. same k (f n).pair || b) (holds_gathered f k n)
     ∙ found_or (same k (f n).pair) n (seek (λ i. (f i).pair) k n)
   where
-    found_or : (b : Bool) (n m : ℕ) → (b || ltb 0 m) ≡ ltb 0 (cond b (suc n) m)
-    found_or true n m = sym (lt-ltb 0 (suc n) (omega arith))
+    found_or : (b : Bool) (n : ℕ) (m : Option ℕ) → (b || is_some m) ≡ is_some (cond b (Some n) m)
+    found_or true n m = refl
     found_or false n m = refl
 
--- the rows of what is found at a number that is one past its place
-abbrev pub rows_found : (ℕ → Folder) → ℕ → Rows
-rows_found f zero = no_rows
-rows_found f (suc b) = (f b).rows
+-- the rows of what is found
+abbrev pub rows_found : (ℕ → Folder) → Option ℕ → Rows
+rows_found f None = no_rows
+rows_found f (Some b) = (f b).rows
 
 pub rows_gathered : (f : ℕ → Folder) (k : Pair) (n : ℕ) → rows_of k (gathered f n) ≡ rows_found f (seek (λ i. (f i).pair) k n)
 rows_gathered f k zero = refl
@@ -105,7 +114,7 @@ rows_gathered f k (suc n) =
     ∙ ap (cond (same k (f n).pair) (f n).rows) (rows_gathered f k n)
     ∙ found_rows (same k (f n).pair) n (seek (λ i. (f i).pair) k n)
   where
-    found_rows : (b : Bool) (n m : ℕ) → cond b (f n).rows (rows_found f m) ≡ rows_found f (cond b (suc n) m)
+    found_rows : (b : Bool) (n : ℕ) (m : Option ℕ) → cond b (f n).rows (rows_found f m) ≡ rows_found f (cond b (Some n) m)
     found_rows true n m = refl
     found_rows false n m = refl
 
@@ -113,26 +122,28 @@ pub gathered_same : (f g : ℕ → Folder) (n : ℕ) → ((i : ℕ) → i < n �
 gathered_same f g zero h = refl
 gathered_same f g (suc n) h = ap (λ x. filed x (gathered f n)) (h n (omega arith)) ∙ ap (filed (g n)) (gathered_same f g n (λ i l. h i (omega arith)))
 
-pub seek_le : (f : ℕ → Pair) (k : Pair) (n : ℕ) → seek f k n ≤ n
-seek_le f k zero = omega arith
-seek_le f k (suc n) = cond_both (same k (f n)) _ _ (λ x. x ≤ suc n) (λ e. omega arith) (λ e. omega (arith, seek_le f k n))
+pub seek_within : (f : ℕ → Pair) (k : Pair) (n : ℕ) → IfSome (seek f k n) (λ b. b < n)
+seek_within f k zero = tt
+seek_within f k (suc n) =
+    cond_both (same k (f n)) (Some n) (seek f k n) (λ x. IfSome x (λ b. b < suc n)) (λ e. omega arith)
+    (λ e. IfSome_then (seek f k n) (seek_within f k n) (λ b l. omega arith))
 
 -- other rows in the block that is found
-pub changed_gathered : (f g : ℕ → Folder) (k : Pair) (v : Rows → Rows) (b : ℕ) → ((i : ℕ) → (i ≡ b → ⊥) → g i ≡ f i) → g b ≡ with_rows v (f b) → (n : ℕ) → seek (λ i. (f i).pair) k n ≡ suc b → gathered g n ≡ changed k v (gathered f n)
-changed_gathered f g k v b others here zero h = absurd (omega arith)
+pub changed_gathered : (f g : ℕ → Folder) (k : Pair) (v : Rows → Rows) (b : ℕ) → ((i : ℕ) → (i ≡ b → ⊥) → g i ≡ f i) → g b ≡ with_rows v (f b) → (n : ℕ) → seek (λ i. (f i).pair) k n ≡ Some b → gathered g n ≡ changed k v (gathered f n)
+changed_gathered f g k v b others here zero h = absurd (none-some b h)
 changed_gathered f g k v b others here (suc n) h =
     ⊎_elim
     (λ e.
-    let t : seek (λ i. (f i).pair) k (suc n) ≡ suc n = cond-true _ _ _ e in
-    let m : b ≡ n = omega arith in
+    let t : seek (λ i. (f i).pair) k (suc n) ≡ Some n = cond-true _ _ _ e in
+    let m : b ≡ n = ap value (sym h ∙ t) in
     let is : g n ≡ with_rows v (f n) = subst (λ (i : ℕ). g i ≡ with_rows v (f i)) m here in
     ap (λ x. filed x (gathered g n)) is
     ∙ ap (filed (with_rows v (f n))) (gathered_same g f n (λ i l. others i (λ s. omega arith)))
     ∙ sym (changed_same k v (f n) (gathered f n) e))
     (λ e.
     let t : seek (λ i. (f i).pair) k (suc n) ≡ seek (λ i. (f i).pair) k n = cond-false _ _ _ e in
-    let u : seek (λ i. (f i).pair) k n ≡ suc b = sym t ∙ h in
-    let w = seek_le (λ i. (f i).pair) k n in
+    let u : seek (λ i. (f i).pair) k n ≡ Some b = sym t ∙ h in
+    let w : b < n = subst (λ (x : Option ℕ). IfSome x (λ i. i < n)) u (seek_within (λ i. (f i).pair) k n) in
     ap (λ x. filed x (gathered g n)) (others n (λ s. omega arith))
     ∙ ap (filed (f n)) (changed_gathered f g k v b others here n u)
     ∙ sym (changed_other k v (f n) (gathered f n) e))

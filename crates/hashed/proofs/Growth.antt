@@ -1,9 +1,8 @@
 -- One block more.
-use Rattle.std.proofs.Common.{◌≡◌, ℕ, zero, suc, ◌+◌, ◌-◌, ◌<◌, ◌≤◌, Bool, true, false, cond, eqb, ltb, List, [], ◌∷◌, ◌++◌, map, length, get_or, take, drop, set, sym, refl, ap, ◌∙◌, subst, ⊎_elim, add-one, arith, length-append, length-drop}
-use Rattle.std.specs.List.{AllByRecursion}
+use Rattle.std.proofs.Common.{◌≡◌, ℕ, zero, suc, ◌+◌, ◌<◌, ◌≤◌, Bool, true, false, cond, eqb, is_some, Some, None, Option, List, [], ◌∷◌, ◌++◌, map, length, get_or, take, drop, set, sym, refl, ap, ◌∙◌, subst, ⊎_elim, add-one, arith}
+use Rattle.std.specs.List.{AllByRecursion, insert}
 use Rattle.std.proofs.ByRecursion.{All-weaker, All-take, All-drop, All-append, All-get_or}
-use Rattle.std.proofs.lemmas.List.{length-map, length-set, length-take-le, get_or-take, get_or-set_same, get_or-set_other, take-take, take_at, take-append-drop, take-map, drop-map, map-append}
-use Rattle.std.proofs.lemmas.Slice.{between_is}
+use Rattle.std.proofs.lemmas.List.{length-map, length-set, length-take-le, get_or-take, get_or-set_same, get_or-set_other, take-append-drop, take-map, drop-map, map-append}
 use Rattle.std.proofs.lemmas.Bool.{cases_eq, cases_lt, eq-eqb, ne_eqb, cond-true, cond-false}
 use Rattle.blocks.specs.Block.{empty_folder}
 use Rattle.register.specs.declared.pairs.Pair.{Pair}
@@ -18,8 +17,8 @@ use Rattle.hashed.proofs.Searches.{keys, long, inside_all}
 pub last_same : (f g : ℕ → Pair) (size h n : ℕ) → ((i : ℕ) → i < n → f i ≡ g i) → last f size h n ≡ last g size h n
 last_same f g size h zero alike = refl
 last_same f g size h (suc n) alike =
-    ap (λ p. cond (eqb (home_of p size) h) (suc n) (last f size h n)) (alike n (omega arith))
-    ∙ ap (cond (eqb (home_of (g n) size) h) (suc n)) (last_same f g size h n (λ i l. alike i (omega arith)))
+    ap (λ p. cond (eqb (home_of p size) h) (Some n) (last f size h n)) (alike n (omega arith))
+    ∙ ap (cond (eqb (home_of (g n) size) h) (Some n)) (last_same f g size h n (λ i l. alike i (omega arith)))
 
 pub map_same : (f g : ℕ → Pair) (n : ℕ) (xs : List ℕ) → ((i : ℕ) → i < n → f i ≡ g i) → AllByRecursion (λ b. b < n) xs → map f xs ≡ map g xs
 map_same f g n [] alike a = refl
@@ -49,11 +48,11 @@ slot_at k [] (y ∷ ys) a b = cond-false _ _ _ (below_not_same k y b.0) ∙ cond
 slot_at k (x ∷ xs) ys a b =
     cond-false _ _ _ (above_not_same k x a.0) ∙ cond-false _ _ _ (above_not_below x k a.0) ∙ ap (λ r. x ∷ r) (slot_at k xs ys a.1 b)
 
-pub long_held : (heads : List ℕ) (fs : List Folder) (links order : List ℕ) (n places : ℕ) → Sound heads fs links order n places → length (held_in fs n) ≡ n
+pub long_held : (heads : List (Option ℕ)) (fs : List Folder) (links : List (Option ℕ)) (order : List ℕ) (n places : ℕ) → Sound heads fs links order n places → length (held_in fs n) ≡ n
 long_held heads fs links order n places sound =
     sym (length-map (held_in fs n) (λ f. f.pair)) ∙ sym (ap length sound.ordered.keyed) ∙ long fs order n (omega (arith, sound.used, sound.listed)) sound.ordered
 
-module _ (heads : List ℕ) (fs : List Folder) (links order : List ℕ) (n places : ℕ) (sound : Sound heads fs links order n places) (x : Folder) (free : n < places) where
+module _ (heads : List (Option ℕ)) (fs : List Folder) (links : List (Option ℕ)) (order : List ℕ) (n places : ℕ) (sound : Sound heads fs links order n places) (x : Folder) (free : n < places) where
   within : n < length fs
   within = omega (arith, sound.blocked)
 
@@ -73,57 +72,56 @@ module _ (heads : List ℕ) (fs : List Folder) (links order : List ℕ) (n place
       ∙ ap (filed x) (gathered_same (folder_at (set fs n x)) (folder_at fs) n kept)
 
   -- the chains
-  module _ (h link : ℕ) (own : h ≡ home_of x.pair (length heads)) (below : h < length heads) (before : link ≡ get_or heads h 0) (as_many : length links ≡ length fs) where
+  module _ (h : ℕ) (link : Option ℕ) (own : h ≡ home_of x.pair (length heads)) (below : h < length heads) (before : link ≡ get_or heads h None) (as_many : length links ≡ length fs) where
     home_here : home_of (pair_at (set fs n x) n) (length heads) ≡ h
     home_here = ap (λ f. home_of f.pair (length heads)) here ∙ sym own
 
     last_kept : (j m : ℕ) → m ≤ n → last (pair_at (set fs n x)) (length heads) j m ≡ last (pair_at fs) (length heads) j m
     last_kept j m l = last_same (pair_at (set fs n x)) (pair_at fs) (length heads) j m (λ i q. pair_kept i (omega arith))
 
-    heading : (j : ℕ) → j < length heads → get_or (set heads h (n + 1)) j 0 ≡ last (pair_at (set fs n x)) (length heads) j (n + 1)
+    heading : (j : ℕ) → j < length heads → get_or (set heads h (Some n)) j None ≡ last (pair_at (set fs n x)) (length heads) j (n + 1)
     heading j l =
         ⊎_elim
         (λ e.
-        ap (λ i. get_or (set heads h (n + 1)) i 0) (sym e)
-        ∙ get_or-set_same heads h (n + 1) 0 below
-        ∙ add-one n
+        ap (λ i. get_or (set heads h (Some n)) i None) (sym e)
+        ∙ get_or-set_same heads h (Some n) None below
         ∙ sym (cond-true _ _ _ (eq-eqb _ j (home_here ∙ e)))
         ∙ ap (last (pair_at (set fs n x)) (length heads) j) (sym (add-one n)))
         (λ e.
-        get_or-set_other heads h j (n + 1) 0 (λ s. e (sym s))
+        get_or-set_other heads h j (Some n) None (λ s. e (sym s))
         ∙ sound.linked.heading j l
         ∙ sym (last_kept j n (omega arith))
         ∙ sym (cond-false _ _ _ (ne_eqb _ j (λ s. e (sym home_here ∙ s))))
         ∙ ap (last (pair_at (set fs n x)) (length heads) j) (sym (add-one n)))
         (cases_eq h j)
 
-    linking : (b : ℕ) → b < n + 1 → get_or (set links n link) b 0 ≡ last (pair_at (set fs n x)) (length heads) (home_of (pair_at (set fs n x) b) (length heads)) b
+    linking : (b : ℕ) → b < n + 1 → get_or (set links n link) b None ≡ last (pair_at (set fs n x)) (length heads) (home_of (pair_at (set fs n x) b) (length heads)) b
     linking b l =
         ⊎_elim
         (λ q.
-        get_or-set_other links n b link 0 (λ e. omega arith)
+        get_or-set_other links n b link None (λ e. omega arith)
         ∙ sound.linked.linking b q
         ∙ ap (λ p. last (pair_at fs) (length heads) (home_of p (length heads)) b) (sym (pair_kept b q))
         ∙ sym (last_kept _ b (omega arith)))
         (λ q.
         let e : n ≡ b = omega arith in
         let room : n < length links = omega (arith, within) in
-        subst (λ (i : ℕ). get_or (set links n link) i 0 ≡ last (pair_at (set fs n x)) (length heads) (home_of (pair_at (set fs n x) i) (length heads)) i) e
-        (get_or-set_same links n link 0 room ∙ before ∙ sound.linked.heading h below ∙ sym (last_kept h n (omega arith)) ∙ ap (λ j. last (pair_at (set fs n x)) (length heads) j n) (sym home_here)))
+        subst (λ (i : ℕ). get_or (set links n link) i None ≡ last (pair_at (set fs n x)) (length heads) (home_of (pair_at (set fs n x) i) (length heads)) i) e
+        (get_or-set_same links n link None room ∙ before ∙ sound.linked.heading h below ∙ sym (last_kept h n (omega arith)) ∙ ap (λ j. last (pair_at (set fs n x)) (length heads) j n) (sym home_here)))
         (cases_lt b n)
 
-    pub linked_more : Linked (set heads h (n + 1)) (set fs n x) (set links n link) (n + 1)
+    pub linked_more : Linked (set heads h (Some n)) (set fs n x) (set links n link) (n + 1)
     linked_more =
-        let e = length-set heads h (n + 1) in
+        let e = length-set heads h (Some n) in
         record {
           heading = λ j l. heading j (omega arith) ∙ ap (λ s. last (pair_at (set fs n x)) s j (n + 1)) (sym e);
           linking = λ b l. linking b l ∙ ap (λ s. last (pair_at (set fs n x)) s (home_of (pair_at (set fs n x) b) s) b) (sym e);
         }
 
   -- the order
-  module _ (at : ℕ) (absent : seek (pair_at fs) x.pair n ≡ 0) (place : at ≤ n) (before : AllByRecursion (λ q. below x.pair q ≡ false) (take at (keys fs order n))) (behind : AllByRecursion (λ q. below x.pair q ≡ true) (drop at (keys fs order n))) (order' : List ℕ) (is : order' ≡ take at order ++ (n ∷ take (n - at) (drop at order)) ++ drop (n + 1) order) (as_long : length order' ≡ length order) where
+  module _ (at : ℕ) (absent : seek (pair_at fs) x.pair n ≡ None) (place : at ≤ n) (before : AllByRecursion (λ q. below x.pair q ≡ false) (take at (keys fs order n))) (behind : AllByRecursion (λ q. below x.pair q ≡ true) (drop at (keys fs order n))) (order' : List ℕ) (is : take (n + 1) order' ≡ insert (take n order) at n) (as_long : length order' ≡ length order) where
     not_held : holds x.pair (held_in fs n) ≡ false
-    not_held = holds_gathered (folder_at fs) x.pair n ∙ ap (ltb 0) absent
+    not_held = holds_gathered (folder_at fs) x.pair n ∙ ap is_some absent
 
     all_in : AllByRecursion (λ b. b < n) (take n order)
     all_in = inside_all fs order n (omega (arith, sound.listed)) sound.ordered
@@ -132,14 +130,7 @@ module _ (heads : List ℕ) (fs : List Folder) (links order : List ℕ) (n place
     os_length = length-take-le n order (omega (arith, sound.listed))
 
     front : take (n + 1) order' ≡ take at (take n order) ++ n ∷ drop at (take n order)
-    front =
-        let a : length (take at order) ≡ at = length-take-le at order (omega (arith, sound.listed)) in
-        let b : length (drop at (take n order)) ≡ length (take n order) - at = length-drop at (take n order) in
-        let m = between_is order at n in
-        let s : length (take at order ++ n ∷ take (n - at) (drop at order)) ≡ n + 1 = length-append (take at order) (n ∷ take (n - at) (drop at order)) ∙ omega (arith, a, b, os_length, ap length m) in
-        ap (take (n + 1)) is ∙ take_at (take at order ++ n ∷ take (n - at) (drop at order)) (drop (n + 1) order) (n + 1) s
-        ∙ ap (λ l. take at order ++ n ∷ l) m
-        ∙ ap (λ l. l ++ n ∷ drop at (take n order)) (sym (take-take at n order place))
+    front = is
 
     under : AllByRecursion (λ q. below q x.pair ≡ true) (take at (keys fs order n))
     under =

@@ -3,7 +3,5 @@ pub mod Growth
 pub mod NewBlock
 pub mod OtherRows
 pub mod Readings
-pub mod Room
 pub mod Searches
-pub mod Shifts
 pub mod Walks

@@ -1,7 +1,7 @@
 -- One block with other rows.
-use Rattle.std.proofs.Common.{◌≡◌, ℕ, zero, suc, ◌-◌, ◌<◌, Bool, true, false, cond, ◌&&◌, ltb, List, length, take, set, sym, refl, ap, ◌∙◌, subst, ⊎_elim, arith}
+use Rattle.std.proofs.Common.{◌≡◌, ℕ, zero, suc, ◌<◌, Bool, true, false, cond, ◌&&◌, List, length, take, set, Some, None, Option, is_some, sym, refl, ap, ◌∙◌, subst, ⊎_elim, arith}
 use Rattle.std.proofs.lemmas.List.{length-set, get_or-set_same, get_or-set_other}
-use Rattle.std.proofs.lemmas.Bool.{cases_eq, lt-ltb}
+use Rattle.std.proofs.lemmas.Bool.{cases_eq}
 use Rattle.blocks.specs.Block.{empty_folder, with_rows}
 use Rattle.blocks.specs.Holding.{takes_row}
 use Rattle.register.specs.declared.pairs.Pair.{Pair}
@@ -25,7 +25,7 @@ module _ (fs : List Folder) (count b : ℕ) (v : Rows → Rows) (within : b < le
   pair_stays i =
       ⊎_elim (λ e. subst (λ (j : ℕ). pair_at (set fs b (with_rows v (folder_at fs b))) j ≡ pair_at fs j) (sym e) (ap (λ f. f.pair) here)) (λ e. ap (λ f. f.pair) (other i e)) (cases_eq i b)
 
-  pub held_changed : (k : Pair) → seek (pair_at fs) k count ≡ suc b → held_in (set fs b (with_rows v (folder_at fs b))) count ≡ changed k v (held_in fs count)
+  pub held_changed : (k : Pair) → seek (pair_at fs) k count ≡ Some b → held_in (set fs b (with_rows v (folder_at fs b))) count ≡ changed k v (held_in fs count)
   held_changed k s = changed_gathered (folder_at fs) (folder_at (set fs b (with_rows v (folder_at fs b)))) k v b other here count s
 
   pairs_same : (f g : ℕ → Folder) (n : ℕ) → ((i : ℕ) → (f i).pair ≡ (g i).pair) → pairs_of (gathered f n) ≡ pairs_of (gathered g n)
@@ -33,7 +33,7 @@ module _ (fs : List Folder) (count b : ℕ) (v : Rows → Rows) (within : b < le
   pairs_same f g (suc n) h =
       pairs_filed (f n) (gathered f n) ∙ ap (λ p. slot p (pairs_of (gathered f n))) (h n) ∙ ap (slot (g n).pair) (pairs_same f g n h) ∙ sym (pairs_filed (g n) (gathered g n))
 
-  pub sound_changed : (heads links order : List ℕ) (places : ℕ) → Sound heads fs links order count places → Sound heads (set fs b (with_rows v (folder_at fs b))) links order count places
+  pub sound_changed : (heads links : List (Option ℕ)) (order : List ℕ) (places : ℕ) → Sound heads fs links order count places → Sound heads (set fs b (with_rows v (folder_at fs b))) links order count places
   sound_changed heads links order places sound =
       let f = pair_at fs in
       let g = pair_at (set fs b (with_rows v (folder_at fs b))) in
@@ -53,41 +53,38 @@ module _ (fs : List Folder) (count b : ℕ) (v : Rows → Rows) (within : b < le
         };
       }
 
--- what was found of a pair: its place is one below, or there is none
-module _ (fs : List Folder) (count : ℕ) (k : Pair) (found : ℕ) (is : found ≡ seek (pair_at fs) k count) where
-  pub absent : found ≡ 0 → holds k (held_in fs count) ≡ false
-  absent e = holds_gathered (folder_at fs) k count ∙ ap (ltb 0) (sym is ∙ e)
+-- a pair that was not found is not held
+pub absent : (fs : List Folder) (count : ℕ) (k : Pair) → seek (pair_at fs) k count ≡ None → holds k (held_in fs count) ≡ false
+absent fs count k is = holds_gathered (folder_at fs) k count ∙ ap is_some is
 
-  module _ (some : 0 < found) where
-    present : holds k (held_in fs count) ≡ true
-    present = holds_gathered (folder_at fs) k count ∙ lt-ltb 0 (seek (pair_at fs) k count) (omega arith)
+-- a pair that was found at a place
+module _ (fs : List Folder) (count : ℕ) (k : Pair) (b : ℕ) (is : seek (pair_at fs) k count ≡ Some b) where
+  pub present : holds k (held_in fs count) ≡ true
+  present = holds_gathered (folder_at fs) k count ∙ ap is_some is
 
-    at_place : seek (pair_at fs) k count ≡ suc (found - 1)
-    at_place = let next : found ≡ suc (found - 1) = omega arith in sym is ∙ next
+  pub takes_answer : (row : Row) (r : Bool) → r ≡ takes_row (folder_at fs b).rows row → r ≡ addable k row (held_in fs count)
+  takes_answer row r e =
+      e
+      ∙ ap (λ (rows : Rows). takes_row rows row) (sym (rows_gathered (folder_at fs) k count ∙ ap (rows_found (folder_at fs)) is))
+      ∙ ap (λ t. t && takes_row (rows_of k (held_in fs count)) row) (sym present)
 
-    pub takes_answer : (row : Row) (r : Bool) → r ≡ takes_row (folder_at fs (found - 1)).rows row → r ≡ addable k row (held_in fs count)
-    takes_answer row r e =
-        e
-        ∙ ap (λ (rows : Rows). takes_row rows row) (sym (rows_gathered (folder_at fs) k count ∙ ap (rows_found (folder_at fs)) at_place))
-        ∙ ap (λ t. t && takes_row (rows_of k (held_in fs count)) row) (sym present)
+  -- the folders and links of the blocks after other rows were put there
+  module _ (v : Rows → Rows) (within : b < length fs) (fs' : List Folder) where
+    pub held_now : fs' ≡ set fs b (with_rows v (folder_at fs b)) → held_in fs' count ≡ changed k v (held_in fs count)
+    held_now e = ap (λ l. held_in l count) e ∙ held_changed fs count b v within k is
 
-    -- the folders and links of the blocks after other rows were put there
-    module _ (v : Rows → Rows) (within : found - 1 < length fs) (fs' : List Folder) where
-      pub held_now : fs' ≡ set fs (found - 1) (with_rows v (folder_at fs (found - 1))) → held_in fs' count ≡ changed k v (held_in fs count)
-      held_now e = ap (λ l. held_in l count) e ∙ held_changed fs count (found - 1) v within k at_place
+    pub held_if : (r : Bool) → fs' ≡ cond r (set fs b (with_rows v (folder_at fs b))) fs → held_in fs' count ≡ cond r (changed k v (held_in fs count)) (held_in fs count)
+    held_if true e = held_now e
+    held_if false e = ap (λ l. held_in l count) e
 
-      pub held_if : (r : Bool) → fs' ≡ cond r (set fs (found - 1) (with_rows v (folder_at fs (found - 1)))) fs → held_in fs' count ≡ cond r (changed k v (held_in fs count)) (held_in fs count)
-      held_if true e = held_now e
-      held_if false e = ap (λ l. held_in l count) e
+    module _ (heads links : List (Option ℕ)) (order : List ℕ) (places : ℕ) (sound : Sound heads fs links order count places) (links' : List (Option ℕ)) (l : links' ≡ links) where
+      pub sound_now : fs' ≡ set fs b (with_rows v (folder_at fs b)) → Sound heads fs' links' order count places
+      sound_now e =
+          subst (λ (ls : List (Option ℕ)). Sound heads fs' ls order count places) (sym l)
+          (subst (λ (gs : List Folder). Sound heads gs links order count places) (sym e) (sound_changed fs count b v within heads links order places sound))
 
-      module _ (heads links order : List ℕ) (places : ℕ) (sound : Sound heads fs links order count places) (links' : List ℕ) (l : links' ≡ links) where
-        pub sound_now : fs' ≡ set fs (found - 1) (with_rows v (folder_at fs (found - 1))) → Sound heads fs' links' order count places
-        sound_now e =
-            subst (λ (ls : List ℕ). Sound heads fs' ls order count places) (sym l)
-            (subst (λ (gs : List Folder). Sound heads gs links order count places) (sym e) (sound_changed fs count (found - 1) v within heads links order places sound))
-
-        pub sound_if : (r : Bool) → fs' ≡ cond r (set fs (found - 1) (with_rows v (folder_at fs (found - 1)))) fs → Sound heads fs' links' order count places
-        sound_if true e = sound_now e
-        sound_if false e =
-            subst (λ (ls : List ℕ). Sound heads fs' ls order count places) (sym l)
-            (subst (λ (gs : List Folder). Sound heads gs links order count places) (sym e) sound)
+      pub sound_if : (r : Bool) → fs' ≡ cond r (set fs b (with_rows v (folder_at fs b))) fs → Sound heads fs' links' order count places
+      sound_if true e = sound_now e
+      sound_if false e =
+          subst (λ (ls : List (Option ℕ)). Sound heads fs' ls order count places) (sym l)
+          (subst (λ (gs : List Folder). Sound heads gs links order count places) (sym e) sound)

@@ -1,5 +1,5 @@
 -- What is read of a block at its place, and what is left where it is written.
-use Rattle.std.proofs.Common.{◌≡◌, ℕ, suc, ◌-◌, ◌<◌, Bool, true, false, cond, List, length, get_or, set, sym, ap, ◌∙◌, arith}
+use Rattle.std.proofs.Common.{◌≡◌, ℕ, ◌<◌, Bool, true, false, cond, List, length, get_or, set, Some, None, sym, ap, ◌∙◌}
 use Rattle.std.proofs.lemmas.List.{get_or-map, map-set, set-get_or}
 use Rattle.blocks.specs.Block.{folder_of, empty_folder, with_rows}
 use Rattle.blocks.specs.declared.block.Block.{Block}
@@ -12,15 +12,15 @@ module _ (blocks : List Block) (i : ℕ) (d : Block) (h : i < length blocks) whe
   pub folder_at_lem : folder_at (folders_of blocks) i ≡ folder_of (get_or blocks i d)
   folder_at_lem = get_or-map folder_of blocks i d (empty_folder lowest) h
 
-  pub link_at : get_or (links_of blocks) i 0 ≡ (get_or blocks i d).link
-  link_at = get_or-map (λ b. b.link) blocks i d 0 h
+  pub link_at : get_or (links_of blocks) i None ≡ (get_or blocks i d).link
+  link_at = get_or-map (λ b. b.link) blocks i d None h
 
   pub folder_read : d ≡ get_or blocks i d → folder_at (folders_of blocks) i ≡ folder_of d
   folder_read e = folder_at_lem ∙ ap folder_of (sym e)
 
   -- in its stead, one with the same link
   pub links_stay : (b : Block) → b.link ≡ (get_or blocks i d).link → links_of (set blocks i b) ≡ links_of blocks
-  links_stay b l = map-set (λ b. b.link) blocks i b ∙ ap (set (links_of blocks) i) (l ∙ sym link_at) ∙ set-get_or (links_of blocks) i 0
+  links_stay b l = map-set (λ b. b.link) blocks i b ∙ ap (set (links_of blocks) i) (l ∙ sym link_at) ∙ set-get_or (links_of blocks) i None
 
   -- in its stead, one with other rows
   pub folder_set : (b : Block) (v : Rows → Rows) → folder_of b ≡ with_rows v (folder_of (get_or blocks i d)) → folders_of (set blocks i b) ≡ set (folders_of blocks) i (with_rows v (folder_at (folders_of blocks) i))
@@ -34,13 +34,12 @@ pub pair_at_lem : (blocks : List Block) (i : ℕ) (d : Block) → i < length blo
 pair_at_lem blocks i d h = ap (λ f. f.pair) (folder_at_lem blocks i d h)
 
 -- the rows of a pair, by what was found of it
-module _ (blocks : List Block) (count : ℕ) (k : Pair) (found : ℕ) (is : found ≡ seek (pair_at (folders_of blocks)) k count) where
-  pub rows_none : found ≡ 0 → rows_of k (held_in (folders_of blocks) count) ≡ no_rows
-  rows_none e = rows_gathered (folder_at (folders_of blocks)) k count ∙ ap (rows_found (folder_at (folders_of blocks))) (sym is ∙ e)
+module _ (blocks : List Block) (count : ℕ) (k : Pair) where
+  pub rows_none : seek (pair_at (folders_of blocks)) k count ≡ None → rows_of k (held_in (folders_of blocks) count) ≡ no_rows
+  rows_none is = rows_gathered (folder_at (folders_of blocks)) k count ∙ ap (rows_found (folder_at (folders_of blocks))) is
 
-  pub rows_read : (found ≡ 0 → ⊥) → (b : Block) → found - 1 < length blocks → b ≡ get_or blocks (found - 1) b → rows_of k (held_in (folders_of blocks) count) ≡ (folder_of b).rows
-  rows_read some b h e =
-      let next : found ≡ suc (found - 1) = omega arith in
+  pub rows_read : (place : ℕ) → seek (pair_at (folders_of blocks)) k count ≡ Some place → (b : Block) → place < length blocks → b ≡ get_or blocks place b → rows_of k (held_in (folders_of blocks) count) ≡ (folder_of b).rows
+  rows_read place is b h e =
       rows_gathered (folder_at (folders_of blocks)) k count
-      ∙ ap (rows_found (folder_at (folders_of blocks))) (sym is ∙ next)
-      ∙ ap (λ f. f.rows) (folder_read blocks (found - 1) b h e)
+      ∙ ap (rows_found (folder_at (folders_of blocks))) is
+      ∙ ap (λ f. f.rows) (folder_read blocks place b h e)

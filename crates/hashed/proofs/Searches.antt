@@ -1,9 +1,10 @@
 -- Pairs in order, and one turn of a search among them by halving.
-use Rattle.std.proofs.Common.{◌≡◌, ℕ, zero, suc, ◌+◌, ◌<◌, ◌≤◌, true, false, List, [], ◌∷◌, map, length, get_or, take, drop, Some, None, sym, ap, ◌∙◌, subst, ⊎_elim, add-one, arith}
+use Rattle.std.proofs.Common.{◌≡◌, ℕ, zero, suc, ◌+◌, ◌<◌, ◌≤◌, Bool, true, false, not, refl, List, [], ◌∷◌, map, length, get_or, take, drop, Some, None, sym, ap, ◌∙◌, subst, ⊎_elim, add-one, arith}
 use Rattle.std.specs.List.{AllByRecursion}
+use Rattle.std.specs.List.Sorted.{IsPartitionedBy, IsPartitionPoint}
 use Rattle.std.proofs.ByRecursion.{All-get_or, All-from_get_or, All-weaker}
-use Rattle.std.proofs.lemmas.List.{length-take-le, get_or-take, get_or-map, length-map, take_all}
-use Rattle.std.proofs.lemmas.Bool.{cases_Bool, both_ways}
+use Rattle.std.proofs.lemmas.List.{length-take-le, get_or-take, get_or_default, get_or-map, length-map, take_all, drop_all}
+use Rattle.std.proofs.lemmas.Bool.{cases_Bool, cases_lt, both_ways, not-true, not-false, not_from_false}
 use Rattle.register.specs.declared.pairs.Pair.{Pair}
 use Rattle.register.specs.Folders.{Folder, below, next_pair, lowest}
 use Rattle.register.specs.Walks.{pairs_of}
@@ -68,6 +69,45 @@ module _ (fs : List Folder) (order : List ℕ) (count : ℕ) (listed : count ≤
 
   pub down : (k : Pair) (mid : ℕ) → mid < count → below k (pair_at fs (get_or order mid 0)) ≡ true → AllByRecursion (λ q. below k q ≡ true) (drop mid (keys fs order count))
   down k mid l h = rise_down k (keys fs order count) mid rises (omega (arith, long)) (ap (below k) (key_of mid l) ∙ h)
+
+  -- the test by which the order is parted
+  abbrev pub up_to : Pair → ℕ → Bool
+  up_to k b = not (below k (pair_at fs b))
+
+  within : (mid : ℕ) (d : ℕ) → mid < length (take count order) → (mid < count) × (get_or (take count order) mid d ≡ get_or order mid 0)
+  within mid d l =
+      let h : mid < count = omega (arith, length-take-le count order listed) in
+      (h, get_or-take count order mid d h ∙ get_or_default order mid d 0 (omega (arith, listed)))
+
+  pub parted : (k : Pair) → IsPartitionedBy (up_to k) (take count order)
+  parted k i j d l h t =
+      let v = within j d h in
+      let w = within i d (omega arith) in
+      let above : below k (pair_at fs (get_or order j 0)) ≡ false = ap (λ b. below k (pair_at fs b)) (sym v.1) ∙ not-true _ t in
+      let a = up k j v.0 above in
+      let e : get_or (take (j + 1) (keys fs order count)) i lowest ≡ pair_at fs (get_or order i 0) = get_or-take (j + 1) (keys fs order count) i lowest (omega arith) ∙ key_of i w.0 in
+      let b : below k (get_or (take (j + 1) (keys fs order count)) i lowest) ≡ false = All-get_or (λ q. below k q ≡ false) (take (j + 1) (keys fs order count)) i lowest (omega (arith, length-take-le (j + 1) (keys fs order count) (omega (arith, long)))) a in
+      not_from_false _ (ap (λ b. below k (pair_at fs b)) w.1 ∙ ap (below k) (sym e) ∙ b)
+
+  module _ (k : Pair) (at : ℕ) (bound : at ≤ length (take count order)) (point : IsPartitionPoint (λ b. up_to k b ≡ true) (λ b. up_to k b ≡ false) (take count order) at) where
+    front_to : (n : ℕ) → n ≡ at → AllByRecursion (λ q. below k q ≡ false) (take n (keys fs order count))
+    front_to zero e = tt
+    front_to (suc m) e =
+        let w = within m 0 (omega arith) in
+        let last : below k (pair_at fs (get_or order m 0)) ≡ false = ap (λ b. below k (pair_at fs b)) (sym w.1) ∙ not-true _ (point.0 m 0 (omega arith) (omega arith)) in
+        subst (λ (n : ℕ). AllByRecursion (λ q. below k q ≡ false) (take n (keys fs order count))) (add-one m) (up k m w.0 last)
+
+    pub front : AllByRecursion (λ q. below k q ≡ false) (take at (keys fs order count))
+    front = front_to at refl
+
+    pub behind : AllByRecursion (λ q. below k q ≡ true) (drop at (keys fs order count))
+    behind =
+        ⊎_elim
+        (λ l.
+        let w = within at 0 l in
+        down k at w.0 (ap (λ b. below k (pair_at fs b)) (sym w.1) ∙ not-false _ (point.1 at 0 (omega arith) l)))
+        (λ l. subst (AllByRecursion (λ q. below k q ≡ true)) (sym (drop_all at (keys fs order count) (omega (arith, long, length-take-le count order listed)))) tt)
+        (cases_lt at (length (take count order)))
 
   pub past_all : (k : Pair) (at : ℕ) → count ≤ at → AllByRecursion (λ q. below k q ≡ false) (take at (keys fs order count)) → next_pair k (held_in fs count) ≡ None
   past_all k at l a =

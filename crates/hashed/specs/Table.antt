@@ -1,5 +1,5 @@
 -- The blocks of the register: the chains by which one is found, and their order by pair.
-use Rattle.std.specs.Prelude.{◌≡◌, ℕ, zero, suc, ◌+◌, ◌*◌, ◌/◌, ◌%◌, ◌^◌, ◌<◌, ◌≤◌, min, cond, List, map, length, take, ◌==◌, slice_index, slice_index_or}
+use Rattle.std.specs.Prelude.{◌≡◌, ℕ, zero, suc, ◌+◌, ◌*◌, ◌/◌, ◌%◌, ◌^◌, ◌<◌, ◌≤◌, min, cond, List, map, length, take, Some, None, Option, ◌==◌, slice_index, slice_index_or}
 use Rattle.blocks.specs.Block.{folder_of, empty_folder}
 use Rattle.blocks.specs.declared.block.Block.{Block}
 use Rattle.register.specs.declared.pairs.Pair.{Pair}
@@ -11,7 +11,7 @@ use Rattle.hashed.specs.Filing.{gathered}
 abbrev pub folders_of : List Block → List Folder
 folders_of = map folder_of
 
-abbrev pub links_of : List Block → List ℕ
+abbrev pub links_of : List Block → List (Option ℕ)
 links_of = map (λ b. b.link)
 
 abbrev pub folder_at : List Folder → ℕ → Folder
@@ -28,27 +28,27 @@ held_in fs n = gathered (folder_at fs) n
 unfoldable pub home_of : Pair → ℕ → ℕ
 home_of p size = (p.system * 11400714819323198485 % 2 ^ 64 + p.view) % 2 ^ 64 * 14029467366897019727 % 2 ^ 64 / 4294967296 % size
 
--- one past the last of the first n blocks that belongs to the chain h; 0 where there is none
-abbrev pub last : (ℕ → Pair) → ℕ → ℕ → ℕ → ℕ
-last f size h zero = 0
-last f size h (suc n) = cond (home_of (f n) size == h) (suc n) (last f size h n)
+-- the last of the first n blocks that belongs to the chain h
+abbrev pub last : (ℕ → Pair) → ℕ → ℕ → ℕ → Option ℕ
+last f size h zero = None
+last f size h (suc n) = cond (home_of (f n) size == h) (Some n) (last f size h n)
 
--- one past the last of the first n blocks that has the pair; 0 where there is none
-abbrev pub seek : (ℕ → Pair) → Pair → ℕ → ℕ
-seek f p zero = 0
-seek f p (suc n) = cond (same p (f n)) (suc n) (seek f p n)
+-- the last of the first n blocks that has the pair
+abbrev pub seek : (ℕ → Pair) → Pair → ℕ → Option ℕ
+seek f p zero = None
+seek f p (suc n) = cond (same p (f n)) (Some n) (seek f p n)
 
 -- each head is the last block of its chain, and each link the one before
-pub record Linked (heads : List ℕ) (fs : List Folder) (links : List ℕ) (count : ℕ) : Type 0 where
-  pub heading : (h : ℕ) → h < length heads → slice_index heads h ≡ last (pair_at fs) (length heads) h count
-  pub linking : (b : ℕ) → b < count → slice_index links b ≡ last (pair_at fs) (length heads) (home_of (pair_at fs b) (length heads)) b
+pub record Linked (heads : List (Option ℕ)) (fs : List Folder) (links : List (Option ℕ)) (count : ℕ) : Type 0 where
+  pub heading : (h : ℕ) → h < length heads → slice_index_or heads h None ≡ last (pair_at fs) (length heads) h count
+  pub linking : (b : ℕ) → b < count → slice_index_or links b None ≡ last (pair_at fs) (length heads) (home_of (pair_at fs b) (length heads)) b
 
 -- the order has the blocks by their pairs
 pub record Ordered (fs : List Folder) (order : List ℕ) (count : ℕ) : Type 0 where
   pub inside : (i : ℕ) → i < count → slice_index order i < count
   pub keyed : map (pair_at fs) (take count order) ≡ pairs_of (held_in fs count)
 
-pub record Sound (heads : List ℕ) (fs : List Folder) (links order : List ℕ) (count places : ℕ) : Type 0 where
+pub record Sound (heads : List (Option ℕ)) (fs : List Folder) (links : List (Option ℕ)) (order : List ℕ) (count places : ℕ) : Type 0 where
   pub used : count ≤ places
   pub narrow : places < 4294967296
   pub blocked : places ≤ length fs

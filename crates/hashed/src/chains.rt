@@ -1,6 +1,5 @@
 // Chains of blocks: the head of each leads to its newest block, and each block's link to the one before.
-// A link is one past the place of a block; 0 is none.
-ghost use Rattle.std.specs.Prelude.{◌≡◌, ◌<◌, ◌≤◌, length};
+ghost use Rattle.std.specs.Prelude.{◌≡◌, ◌<◌, ◌≤◌, length, IfSome};
 ghost use Rattle.register.specs.Folders.{same};
 ghost use Rattle.hashed.specs.Table.{folders_of, links_of, pair_at, home_of, seek, Linked};
 
@@ -36,23 +35,29 @@ fn is_at(blocks: &[Block], at: usize, pair: Pair) -> bool
     is_of(&blocks[at], pair)
 }
 
-// One past the place of a pair's block, and 0 where there is none: along the chain, which goes down.
-pub(crate) fn find(heads: &[u32], blocks: &[Block], count: usize, pair: Pair) -> usize
+// The place of a pair's block: along the chain, which goes down.
+pub(crate) fn find(
+    heads: &[Option<u32>],
+    blocks: &[Block],
+    count: usize,
+    pair: Pair,
+) -> Option<usize>
     requires within { count ≤ length blocks.now }
     requires headed { 0 < count → 0 < length heads.now }
     requires linked { Linked heads.now (folders_of blocks.now) (links_of blocks.now) count }
     ensures value { result ≡ seek (pair_at (folders_of blocks.now)) pair count }
-    ensures within { result ≤ count }
+    ensures within { IfSome result (λ place. place < count) }
 {
-    if heads.len() == 0 {
-        return 0;
+    if heads.is_empty() {
+        return None;
     }
-    let mut at = heads[home(pair, heads.len())] as usize;
-    while at > 0 {
-        if is_at(blocks, at - 1, pair) {
-            return at;
+    let mut link = heads[home(pair, heads.len())];
+    while let Some(at) = link {
+        let place = at as usize;
+        if is_at(blocks, place, pair) {
+            return Some(place);
         }
-        at = blocks[at - 1].link as usize;
+        link = blocks[place].link;
     }
-    0
+    None
 }

@@ -1,5 +1,5 @@
 // The register that finds a folder by hashing its pair: the lent memory, always sound.
-ghost use Rattle.std.specs.Prelude.{◌≡◌, ℕ, ◌<◌, ◌≤◌, [], map, length, take, slice_index};
+ghost use Rattle.std.specs.Prelude.{◌≡◌, ℕ, ◌<◌, ◌≤◌, [], map, length, take, None, slice_index, slice_index_or};
 ghost use Rattle.register.specs.Folders.{Systems};
 ghost use Rattle.register.specs.Walks.{pairs_of};
 ghost use Rattle.hashed.specs.Form.{in_form_lem};
@@ -22,8 +22,8 @@ pub struct Hashed<'a> {
     ghost blocked: { table.places ≤ length (folders_of table.blocks.now) },
     ghost listed: { table.places ≤ length table.order.now },
     ghost headed: { 0 < table.places → 0 < length table.heads.now },
-    ghost heading: { (h : ℕ) → h < length table.heads.now → slice_index table.heads.now h ≡ last (pair_at (folders_of table.blocks.now)) (length table.heads.now) h table.count },
-    ghost linking: { (b : ℕ) → b < table.count → slice_index (links_of table.blocks.now) b ≡ last (pair_at (folders_of table.blocks.now)) (length table.heads.now) (home_of (pair_at (folders_of table.blocks.now) b) (length table.heads.now)) b },
+    ghost heading: { (h : ℕ) → h < length table.heads.now → slice_index_or table.heads.now h None ≡ last (pair_at (folders_of table.blocks.now)) (length table.heads.now) h table.count },
+    ghost linking: { (b : ℕ) → b < table.count → slice_index_or (links_of table.blocks.now) b None ≡ last (pair_at (folders_of table.blocks.now)) (length table.heads.now) (home_of (pair_at (folders_of table.blocks.now) b) (length table.heads.now)) b },
     ghost inside: { (i : ℕ) → i < table.count → slice_index table.order.now i < table.count },
     ghost keyed: { map (pair_at (folders_of table.blocks.now)) (take table.count table.order.now) ≡ pairs_of (held_in (folders_of table.blocks.now) table.count) },
     ghost systems: { Systems (held_in (folders_of table.blocks.now) table.count) },
@@ -42,7 +42,7 @@ fn places_of(most: usize, heads: usize, blocks: usize, order: usize) -> usize
 impl<'a> Hashed<'a> {
     // A register of no folder over memory of any content, with at most so many places.
     pub fn over(
-        heads: &'a mut [u32],
+        heads: &'a mut [Option<u32>],
         blocks: &'a mut [Block],
         order: &'a mut [u32],
         most: usize,
@@ -50,7 +50,7 @@ impl<'a> Hashed<'a> {
         ensures empty { table_folders result.table ≡ [] }
         ensures places { result.table.places ≡ places_of most (length heads.old) (length blocks.old) (length order.old) }
     {
-        heads.fill(0);
+        heads.fill(None);
         let places = places_of(most, heads.len(), blocks.len(), order.len());
         let table = Table {
             heads,

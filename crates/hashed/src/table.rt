@@ -7,7 +7,7 @@ use blocks::block::Block;
 
 #[derive(Drop)]
 pub(crate) struct Table<'a> {
-    pub(crate) heads: &'a mut [u32],
+    pub(crate) heads: &'a mut [Option<u32>],
     pub(crate) blocks: &'a mut [Block],
     pub(crate) order: &'a mut [u32],
     pub(crate) count: usize,

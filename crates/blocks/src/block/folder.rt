@@ -13,7 +13,7 @@ use rows::row::Row;
 
 impl Block {
     // An empty folder.
-    pub fn new(pair: Pair, link: u32) -> Block
+    pub fn new(pair: Pair, link: Option<u32>) -> Block
         ensures folder { folder_of result ≡ empty_folder pair }
         ensures link { result.link ≡ link }
     {
@@ -28,7 +28,7 @@ impl Block {
     pub fn blank() -> Block
         ensures { folder_of result ≡ empty_folder lowest }
     {
-        Block::new(Pair { system: 0, view: 0 }, 0)
+        Block::new(Pair { system: 0, view: 0 }, None)
     }
 
     // How many rows of a kind the folder has.

@@ -21,11 +21,10 @@ impl<'a> Table<'a> {
         ensures after { table_folders self.new ≡ (if result then made pair (table_folders self.old) else table_folders self.old) }
         ensures places { self.new.places ≡ self.old.places }
     {
-        let used = self.count;
-        let found = self.find(pair);
-        if found > 0 {
+        if self.find(pair).is_some() {
             return true;
         }
+        let used = self.count;
         if used >= self.places {
             return false;
         }
@@ -33,7 +32,7 @@ impl<'a> Table<'a> {
         let chain = home(pair, self.heads.len());
         let link = self.heads[chain];
         self.blocks[used] = Block::new(pair, link);
-        self.heads[chain] = (used + 1) as u32;
+        self.heads[chain] = Some(used as u32);
         insert(self.order, used, at, used as u32);
         self.count = used + 1;
         true
@@ -46,11 +45,9 @@ impl<'a> Table<'a> {
         ensures after { table_folders self.new ≡ cut_folders pair kind day (table_folders self.old) }
         ensures places { self.new.places ≡ self.old.places }
     {
-        let found = self.find(pair);
-        if found == 0 {
-            return;
+        if let Some(place) = self.find(pair) {
+            cut_at(self.blocks, place, kind, day);
         }
-        cut_at(self.blocks, found - 1, kind, day);
     }
 
     // Appends a row to its kind in one folder.
@@ -61,11 +58,10 @@ impl<'a> Table<'a> {
         ensures after { table_folders self.new ≡ (if result then added_folders pair row (table_folders self.old) else table_folders self.old) }
         ensures places { self.new.places ≡ self.old.places }
     {
-        let found = self.find(pair);
-        if found == 0 {
-            return false;
+        match self.find(pair) {
+            Some(place) => add_at(self.blocks, place, row),
+            None => false,
         }
-        add_at(self.blocks, found - 1, row)
     }
 
     // Forgets all folders.
@@ -75,7 +71,7 @@ impl<'a> Table<'a> {
         ensures after { table_folders self.new ≡ [] }
         ensures places { self.new.places ≡ self.old.places }
     {
-        self.heads.fill(0);
+        self.heads.fill(None);
         self.count = 0;
     }
 }

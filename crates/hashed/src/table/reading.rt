@@ -1,5 +1,5 @@
 // Folders that are found and read.
-ghost use Rattle.std.specs.Prelude.{◌≡◌, ◌≤◌, true, false, map, length, take, drop};
+ghost use Rattle.std.specs.Prelude.{◌≡◌, ◌<◌, ◌≤◌, IfSome, true, false, map, length, take, drop};
 ghost use Rattle.std.specs.List.{slice_get, AllByRecursion};
 ghost use Rattle.register.specs.Folders.{below, rows_of, next_pair};
 ghost use Rattle.hashed.specs.Memory.{SoundTable, table_folders};
@@ -20,11 +20,11 @@ impl<'a> Table<'a> {
         self.count
     }
 
-    // One past the place of a pair's block, and 0 where there is none.
-    pub(crate) fn find(&self, pair: Pair) -> usize
+    // The place of a pair's block.
+    pub(crate) fn find(&self, pair: Pair) -> Option<usize>
         requires { SoundTable self.now }
         ensures value { result ≡ seek (pair_at (folders_of self.now.blocks.now)) pair self.now.count }
-        ensures within { result ≤ self.now.count }
+        ensures within { IfSome result (λ place. place < self.now.count) }
     {
         chains::find(self.heads, self.blocks, self.count, pair)
     }
@@ -52,12 +52,11 @@ impl<'a> Table<'a> {
         requires { SoundTable self.now }
         ensures { result ≡ length (rows_of pair (table_folders self.now) kind) }
     {
-        let found = self.find(pair);
-        if found == 0 {
-            return 0;
-        }
         let blocks = &*self.blocks;
-        blocks[found - 1].count(kind)
+        match self.find(pair) {
+            Some(place) => blocks[place].count(kind),
+            None => 0,
+        }
     }
 
     // The row at a place of a kind in a folder.
@@ -65,11 +64,8 @@ impl<'a> Table<'a> {
         requires { SoundTable self.now }
         ensures { result ≡ slice_get (rows_of pair (table_folders self.now) kind) place }
     {
-        let found = self.find(pair);
-        if found == 0 {
-            return None;
-        }
+        let at = self.find(pair)?;
         let blocks = &*self.blocks;
-        blocks[found - 1].read(kind, place)
+        blocks[at].read(kind, place)
     }
 }

@@ -1,21 +1,19 @@
-use Rattle.std.proofs.Common.{◌-◌, ◌<◌, length, sym, ap, ◌∙◌, arith}
+use Rattle.std.proofs.Common.{◌<◌, length, sym, ap, ◌∙◌, arith}
 use Rattle.std.proofs.lemmas.List.{length-map}
 use Rattle.blocks.specs.Block.{folder_of}
 use Rattle.register.specs.Folders.{Rows}
 use Rattle.hashed.proofs.Readings.{rows_none, rows_read}
 use Rattle.hashed.proofs.table.Table.count.Goals as goal
 
-pub returns-then-found-eq0 : goal.returns-then-found-eq0
-returns-then-found-eq0 c =
-    ap (λ (rows : Rows). length (rows c.args.kind))
-    (sym (rows_none c.args.self.now.blocks.now c.args.self.now.count c.args.pair c.find-found.result c.find-found.ensures.value (omega arith)))
-
-pub bounds-blocks-found : goal.bounds-blocks-found
-bounds-blocks-found c = omega (arith, c.requires.used, c.requires.blocked, length-map c.args.self.now.blocks.now folder_of)
-
-pub returns : goal.returns
-returns c =
-    let h : c.find-found.result - 1 < length c.args.self.now.blocks.now = omega (arith, c.requires.used, c.requires.blocked, length-map c.args.self.now.blocks.now folder_of) in
+pub returns-in-Some : goal.returns-in-Some
+returns-in-Some c =
+    let t = c.args.self.now in
+    let h : c.in-Some.place < length c.args.self.now.blocks.now = omega (arith, c.in-Some.ensures.within, c.requires.used, c.requires.blocked, length-map c.args.self.now.blocks.now folder_of) in
     c.count.ensures
     ∙ ap (λ (rows : Rows). length (rows c.args.kind))
-    (sym (rows_read c.args.self.now.blocks.now c.args.self.now.count c.args.pair c.find-found.result c.find-found.ensures.value c.if-found-eq0.false c.index-blocks-found.result h c.index-blocks-found.is))
+    (sym (rows_read t.blocks.now t.count c.args.pair c.in-Some.place (sym c.in-Some.ensures.value) c.index-blocks-place.result h c.index-blocks-place.is))
+
+pub returns-in-None : goal.returns-in-None
+returns-in-None c =
+    let t = c.args.self.now in
+    ap (λ (rows : Rows). length (rows c.args.kind)) (sym (rows_none t.blocks.now t.count c.args.pair (sym c.in-None.ensures.value)))
