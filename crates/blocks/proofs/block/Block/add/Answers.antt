@@ -11,12 +11,3 @@ invariant_of-self c = record { ascend = add_ascend c.args.self.now.contents c.ad
 by_answer : (p : Pair) (r : Bool) (change : Rows → Rows) (before after : Rows) → after ≡ cond r (change before) before → ◌≡◌ {A = Folder} (record { pair = p; rows = after }) (cond r (record { pair = p; rows = change before }) (record { pair = p; rows = before }))
 by_answer p true change before after e = ap (λ rows. record { pair = p; rows = rows }) e
 by_answer p false change before after e = ap (λ rows. record { pair = p; rows = rows }) e
-
-pub returns : goal.returns
-returns c =
-    let b = c.args.self.now in
-    record {
-      answer = c.add.ensures.answer;
-      folder = by_answer (b.system, b.view) c.add.result (added_rows c.args.row) (kind_rows b.contents) (kind_rows c.add.new.self) c.add.ensures.after;
-      link = refl;
-    }
