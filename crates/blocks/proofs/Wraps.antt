@@ -1,8 +1,6 @@
 -- Rows of one kind, as rows of any kind: their starts stay, so they are cut and added alike.
-use Rattle.std.proofs.Common.{◌≡◌, ℕ, suc, ◌-◌, ◌<◌, ◌≤◌, Bool, true, false, cond, ◌&&◌, ltb, List, [], ◌∷◌, ◌++◌, map, length, get_or, take, Some, None, Decides, sym, refl, ap, ◌∙◌, arith}
-use Rattle.std.specs.List.{slice_get}
-use Rattle.std.proofs.lemmas.List.{length-map, take-map, map_push, get_or-map}
-use Rattle.std.proofs.lemmas.Option.{slice_get-get_or, slice_get_past}
+use Rattle.std.proofs.Common.{◌≡◌, ℕ, suc, ◌-◌, Bool, true, false, cond, ◌&&◌, ltb, List, [], ◌∷◌, ◌++◌, map, length, get_or, take, Decides, sym, refl, ap, ◌∙◌, arith}
+use Rattle.std.proofs.lemmas.List.{length-map, take-map, map_push}
 use Rattle.std.proofs.lemmas.Bool.{ltb-true, lt-ltb}
 use Rattle.std.proofs.lemmas.Bool.Decides.{same_from_decides, Decides-and, Decides-ltb}
 use Rattle.register.specs.Folders.{kept_rows, starts_after}
@@ -30,12 +28,6 @@ module _ {X : Type 0} (wrap : X → Row) (start : X → ℕ) (starts : (x : X) �
       let back : length (q ∷ p ∷ xs) - 1 ≡ suc (length (p ∷ xs) - 1) = omega arith in
       let same : get_or (map start (q ∷ p ∷ xs)) (length (q ∷ p ∷ xs) - 1) 0 ≡ get_or (map start (p ∷ xs)) (length (p ∷ xs) - 1) 0 = ap (λ n. get_or (map start (q ∷ p ∷ xs)) n 0) back in
       (λ e _. omega (arith, same, d.0 e (omega arith)), λ h. d.1 (λ _. omega (arith, same, h (omega arith))))
-
-  pub read_here : (xs : List X) (i : ℕ) (x : X) → i < length xs → x ≡ get_or xs i x → Some (wrap x) ≡ slice_get (map wrap xs) i
-  read_here xs i x h e = sym (slice_get-get_or (map wrap xs) i (wrap x) (omega (arith, length-map xs wrap)) ∙ ap Some (get_or-map wrap xs i x (wrap x) h ∙ ap wrap (sym e)))
-
-  pub read_past : (xs : List X) (i : ℕ) → length xs ≤ i → None ≡ slice_get (map wrap xs) i
-  read_past xs i h = sym (slice_get_past (map wrap xs) i (omega (arith, length-map xs wrap)))
 
   pub add_answer : (most : ℕ) (xs : List X) (x : X) (r : Bool) → Decides r (Addable start most x xs) → r ≡ (ltb (length (map wrap xs)) most && starts_after (map wrap xs) (wrap x))
   add_answer most xs x r d =

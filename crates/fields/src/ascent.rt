@@ -7,10 +7,5 @@ pub fn ascends(numbers: &[u16]) -> bool
     ensures value { result ≡ ascending numbers.now }
     ensures law { Decides result (Ascending numbers.now) }
 {
-    for i in 1..numbers.len() {
-        if numbers[i] <= numbers[i - 1] {
-            return false;
-        }
-    }
-    true
+    numbers.is_sorted_by(|before, number| before < number)
 }

@@ -10,7 +10,7 @@ pub const LAST_DAY: u16 = 60_000;
 pub fn is_day(number: u16) -> bool
     ensures { result ≡ is_day number }
 {
-    FIRST_DAY <= number && number <= LAST_DAY
+    (FIRST_DAY..=LAST_DAY).contains(&number)
 }
 
 // The last day of a span that was sent with this end: an end of 0 means no end.

@@ -1,40 +1,48 @@
 // What a single letter says in a row: energisation status, measurement class, GSP group.
 ghost use Rattle.std.specs.Prelude.{◌≡◌, Some};
+ghost use Rattle.fields.specs.Codes.{known};
 ghost use Rattle.fields.specs.Statuses.{status_letter, status_of};
 ghost use Rattle.fields.specs.MeasurementClasses.{class_letter, class_of};
 ghost use Rattle.fields.specs.Groups.{group_letter, group_of};
 
+// A letter that stands for nothing where it was read.
+#[derive(Clone, Copy, Debug, PartialEq, Eq)]
+pub struct UnknownLetter(pub char);
+
 // Whether a metering system can take energy.
-#[derive(Clone, Copy, PartialEq)]
+#[derive(Clone, Copy, Debug, PartialEq, Eq)]
 pub enum Status {
     DeEnergised,
     Energised,
 }
 
-impl Status {
-    pub fn letter(self) -> char
-        ensures value { result ≡ status_letter self }
-        ensures back { status_of result ≡ Some self }
-    {
-        match self {
+impl From<Status> for char {
+    ghost from_gives = { λ status letter. (letter ≡ status_letter status) × (status_of letter ≡ Some status) };
+
+    fn from(status: Status) -> char {
+        match status {
             Status::DeEnergised => 'D',
             Status::Energised => 'E',
         }
     }
+}
 
-    pub fn from_letter(letter: char) -> Option<Status>
-        ensures { result ≡ status_of letter }
-    {
+impl TryFrom<char> for Status {
+    type Error = UnknownLetter;
+
+    ghost try_from_gives = { λ letter r. r ≡ known letter (status_of letter) };
+
+    fn try_from(letter: char) -> Result<Status, UnknownLetter> {
         match letter {
-            'D' => Some(Status::DeEnergised),
-            'E' => Some(Status::Energised),
-            _ => None,
+            'D' => Ok(Status::DeEnergised),
+            'E' => Ok(Status::Energised),
+            _ => Err(UnknownLetter(letter)),
         }
     }
 }
 
 // How a metering system is measured.
-#[derive(Clone, Copy, PartialEq)]
+#[derive(Clone, Copy, Debug, PartialEq, Eq)]
 pub enum MeasurementClass {
     A,
     B,
@@ -42,34 +50,37 @@ pub enum MeasurementClass {
     D,
 }
 
-impl MeasurementClass {
-    pub fn letter(self) -> char
-        ensures value { result ≡ class_letter self }
-        ensures back { class_of result ≡ Some self }
-    {
-        match self {
+impl From<MeasurementClass> for char {
+    ghost from_gives = { λ class letter. (letter ≡ class_letter class) × (class_of letter ≡ Some class) };
+
+    fn from(class: MeasurementClass) -> char {
+        match class {
             MeasurementClass::A => 'A',
             MeasurementClass::B => 'B',
             MeasurementClass::C => 'C',
             MeasurementClass::D => 'D',
         }
     }
+}
 
-    pub fn from_letter(letter: char) -> Option<MeasurementClass>
-        ensures { result ≡ class_of letter }
-    {
+impl TryFrom<char> for MeasurementClass {
+    type Error = UnknownLetter;
+
+    ghost try_from_gives = { λ letter r. r ≡ known letter (class_of letter) };
+
+    fn try_from(letter: char) -> Result<MeasurementClass, UnknownLetter> {
         match letter {
-            'A' => Some(MeasurementClass::A),
-            'B' => Some(MeasurementClass::B),
-            'C' => Some(MeasurementClass::C),
-            'D' => Some(MeasurementClass::D),
-            _ => None,
+            'A' => Ok(MeasurementClass::A),
+            'B' => Ok(MeasurementClass::B),
+            'C' => Ok(MeasurementClass::C),
+            'D' => Ok(MeasurementClass::D),
+            _ => Err(UnknownLetter(letter)),
         }
     }
 }
 
 // A group of grid supply points, by its letter: A to P without I and O.
-#[derive(Clone, Copy, PartialEq)]
+#[derive(Clone, Copy, Debug, PartialEq, Eq)]
 pub enum Group {
     A,
     B,
@@ -87,12 +98,11 @@ pub enum Group {
     P,
 }
 
-impl Group {
-    pub fn letter(self) -> char
-        ensures value { result ≡ group_letter self }
-        ensures back { group_of result ≡ Some self }
-    {
-        match self {
+impl From<Group> for char {
+    ghost from_gives = { λ group letter. (letter ≡ group_letter group) × (group_of letter ≡ Some group) };
+
+    fn from(group: Group) -> char {
+        match group {
             Group::A => 'A',
             Group::B => 'B',
             Group::C => 'C',
@@ -109,26 +119,30 @@ impl Group {
             Group::P => 'P',
         }
     }
+}
 
-    pub fn from_letter(letter: char) -> Option<Group>
-        ensures { result ≡ group_of letter }
-    {
+impl TryFrom<char> for Group {
+    type Error = UnknownLetter;
+
+    ghost try_from_gives = { λ letter r. r ≡ known letter (group_of letter) };
+
+    fn try_from(letter: char) -> Result<Group, UnknownLetter> {
         match letter {
-            'A' => Some(Group::A),
-            'B' => Some(Group::B),
-            'C' => Some(Group::C),
-            'D' => Some(Group::D),
-            'E' => Some(Group::E),
-            'F' => Some(Group::F),
-            'G' => Some(Group::G),
-            'H' => Some(Group::H),
-            'J' => Some(Group::J),
-            'K' => Some(Group::K),
-            'L' => Some(Group::L),
-            'M' => Some(Group::M),
-            'N' => Some(Group::N),
-            'P' => Some(Group::P),
-            _ => None,
+            'A' => Ok(Group::A),
+            'B' => Ok(Group::B),
+            'C' => Ok(Group::C),
+            'D' => Ok(Group::D),
+            'E' => Ok(Group::E),
+            'F' => Ok(Group::F),
+            'G' => Ok(Group::G),
+            'H' => Ok(Group::H),
+            'J' => Ok(Group::J),
+            'K' => Ok(Group::K),
+            'L' => Ok(Group::L),
+            'M' => Ok(Group::M),
+            'N' => Ok(Group::N),
+            'P' => Ok(Group::P),
+            _ => Err(UnknownLetter(letter)),
         }
     }
 }

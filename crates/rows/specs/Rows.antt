@@ -1,5 +1,5 @@
 -- A row of any kind: its kind, its start, and the last day on which it can be in effect.
-use Rattle.std.specs.Prelude.{ℕ}
+use Rattle.std.specs.Prelude.{◌≡◌, ℕ}
 use Rattle.fields.specs.Days.{last_day}
 use Rattle.rows.specs.declared.kinds.Kind.{Kind}
 use Rattle.rows.specs.declared.kinds.Kind.TheVariants as kind
@@ -42,3 +42,7 @@ last_of_row (LineLoss r) = 60000
 last_of_row (Group r) = 60000
 last_of_row (Advance r) = last_day r.end
 last_of_row (Estimate r) = 60000
+
+-- among the rows of any kind: it is of this kind, starts on this day, and can be in effect until that one
+abbrev pub Stands : Kind → ℕ → ℕ → Row → Type 0
+Stands kind start last r = (kind_of_row r ≡ kind) × (start_of_row r ≡ start) × (last_of_row r ≡ last)

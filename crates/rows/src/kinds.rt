@@ -1,9 +1,12 @@
 // The ten kinds of row.
 ghost use Rattle.std.specs.Prelude.{◌≡◌, Some};
+ghost use Rattle.fields.specs.Codes.{known};
 ghost use Rattle.rows.specs.Kinds.{letter_of, kind_of, rank_of};
 
+use fields::letters::UnknownLetter;
+
 // A kind of row. The order is the one in which files carry records and folders keep rows.
-#[derive(Clone, Copy, PartialEq)]
+#[derive(Clone, Copy, Debug, PartialEq, Eq, PartialOrd, Ord)]
 pub enum Kind {
     // R: which supplier a metering system is registered to
     Registration,
@@ -28,12 +31,20 @@ pub enum Kind {
 }
 
 impl Kind {
-    // The letter that begins a record of this kind.
-    pub fn letter(self) -> char
-        ensures value { result ≡ letter_of self }
-        ensures back { kind_of result ≡ Some self }
+    // How many kinds come before this one.
+    pub fn rank(self) -> usize
+        ensures { result ≡ rank_of self }
     {
-        match self {
+        self as usize
+    }
+}
+
+// The letter that begins a record of a kind.
+impl From<Kind> for char {
+    ghost from_gives = { λ kind letter. (letter ≡ letter_of kind) × (kind_of letter ≡ Some kind) };
+
+    fn from(kind: Kind) -> char {
+        match kind {
             Kind::Registration => 'R',
             Kind::Appointment => 'A',
             Kind::Collector => 'K',
@@ -46,30 +57,27 @@ impl Kind {
             Kind::Estimate => 'Q',
         }
     }
+}
 
-    // The kind that a letter stands for.
-    pub fn from_letter(letter: char) -> Option<Kind>
-        ensures { result ≡ kind_of letter }
-    {
+// The kind that a letter stands for.
+impl TryFrom<char> for Kind {
+    type Error = UnknownLetter;
+
+    ghost try_from_gives = { λ letter r. r ≡ known letter (kind_of letter) };
+
+    fn try_from(letter: char) -> Result<Kind, UnknownLetter> {
         match letter {
-            'R' => Some(Kind::Registration),
-            'A' => Some(Kind::Appointment),
-            'K' => Some(Kind::Collector),
-            'P' => Some(Kind::Profile),
-            'M' => Some(Kind::Measurement),
-            'E' => Some(Kind::Energisation),
-            'L' => Some(Kind::LineLoss),
-            'G' => Some(Kind::Group),
-            'V' => Some(Kind::Advance),
-            'Q' => Some(Kind::Estimate),
-            _ => None,
+            'R' => Ok(Kind::Registration),
+            'A' => Ok(Kind::Appointment),
+            'K' => Ok(Kind::Collector),
+            'P' => Ok(Kind::Profile),
+            'M' => Ok(Kind::Measurement),
+            'E' => Ok(Kind::Energisation),
+            'L' => Ok(Kind::LineLoss),
+            'G' => Ok(Kind::Group),
+            'V' => Ok(Kind::Advance),
+            'Q' => Ok(Kind::Estimate),
+            _ => Err(UnknownLetter(letter)),
         }
-    }
-
-    // How many kinds come before this one.
-    pub fn rank(self) -> usize
-        ensures { result ≡ rank_of self }
-    {
-        self as usize
     }
 }

@@ -1,20 +1,21 @@
 -- The rows that a cut keeps.
-use Rattle.std.proofs.Common.{◌≡◌, ℕ, zero, suc, ◌+◌, ◌<◌, ◌≤◌, Bool, true, false, cond, ltb, leb, List, [], ◌∷◌, map, length, get_or, take, filter, sym, refl, ap, ◌∙◌, subst, arith}
+use Rattle.std.proofs.Common.{rules, ◌≡◌, ℕ, zero, suc, ◌+◌, ◌<◌, ◌≤◌, Bool, true, false, not, cond, ltb, leb, List, [], ◌∷◌, map, length, get_or, take, filter, sym, refl, ap, ◌∙◌, subst, arith}
 use Rattle.std.proofs.lemmas.List.{length-map}
-use Rattle.std.proofs.lemmas.Bool.{cond-true, cond-false, le-leb, lt-leb, leb-true, leb-false, le-ltb, lt-ltb}
+use Rattle.std.proofs.lemmas.Bool.{cond-true, cond-false, leb-true, leb-false, le-ltb, lt-ltb}
+use Rattle.std.specs.List.{prefix_len}
 use Rattle.fields.specs.Ascent.{Ascending}
 use Rattle.timeline.specs.Finding.{before, StartedBefore}
 
--- a walk: what is left begins with a start that is kept, or with the first that is not
-pub before_more : (cut i s : ℕ) (front rest : List ℕ) → front ≡ s ∷ rest → s < cut → (i + 1) + before cut rest ≡ i + before cut front
-before_more cut i s front rest e h =
-    let w : before cut front ≡ suc (before cut rest) = ap (before cut) e ∙ cond-false (leb cut s) 0 (suc (before cut rest)) (lt-leb cut s h) in
-    omega arith
+-- the starts before the cut day, counted from the front
+one_more : (late : Bool) (m n : ℕ) → m ≡ n → cond late 0 (suc m) ≡ cond (not late) (1 + n) 0
+one_more true m n h = refl
+one_more false m n h = omega (arith, h)
 
-pub before_here : (cut i s : ℕ) (front rest : List ℕ) → front ≡ s ∷ rest → cut ≤ s → i ≡ i + before cut front
-before_here cut i s front rest e h =
-    let w : before cut front ≡ 0 = ap (before cut) e ∙ cond-true (leb cut s) 0 (suc (before cut rest)) (le-leb cut s h) in
-    omega arith
+pub before_counts : {X : Type 0} (start : X → ℕ) (cut : ℕ) (rows : List X) → before cut (map start rows) ≡ prefix_len (λ row. ltb (start row) cut) rows
+before_counts start cut [] = refl
+before_counts start cut (row ∷ rows) =
+    let early : not (leb cut (start row)) ≡ ltb (start row) cut = search rules in
+    one_more (leb cut (start row)) _ _ (before_counts start cut rows) ∙ ap (λ b. cond b (1 + prefix_len (λ row. ltb (start row) cut) rows) 0) early
 
 cond_within : (b : Bool) (m n : ℕ) → m ≤ n → cond b 0 (suc m) ≤ suc n
 cond_within true m n h = omega arith

@@ -1,21 +1,12 @@
 -- The latest start on or before a day, and the row in effect.
-use Rattle.std.proofs.Common.{◌≡◌, ℕ, zero, suc, ◌+◌, ◌-◌, ◌<◌, ◌≤◌, Bool, true, false, cond, leb, List, [], ◌∷◌, ◌++◌, map, length, get_or, take, Some, None, Option, sym, refl, ap, ◌∙◌, le_of_suc-le-suc, not-suc-le-zero, arith}
+use Rattle.std.proofs.Common.{⊎_elim, MatchOption, ◌≡◌, ℕ, zero, suc, ◌<◌, ◌≤◌, Bool, true, false, cond, leb, List, [], ◌∷◌, map, length, get_or, Some, None, Option, sym, refl, ap, ◌∙◌, le_of_suc-le-suc, not-suc-le-zero, arith}
+use Rattle.std.specs.Bool.{then_some}
 use Rattle.std.specs.List.{slice_get}
-use Rattle.std.proofs.lemmas.List.{length-map, get_or-map, length-take-le}
+use Rattle.std.proofs.lemmas.List.{length-map, get_or-map}
 use Rattle.std.proofs.lemmas.Option.{slice_get-get_or}
-use Rattle.std.proofs.lemmas.Bool.{cond-true, cond-false, le-leb, lt-leb, leb-true, leb-false}
+use Rattle.std.proofs.lemmas.Bool.{cases_lt, leb-true, leb-false}
 use Rattle.timeline.specs.Finding.{further, latest_on, Latest, term, unless_past, in_effect, row_at, row_on, started, ByStarted}
-use Rattle.timeline.proofs.Walks.{mapped_here, mapped_push}
-
-further_cond : (here there : Bool) (x y : Option ℕ) → further here (cond there x y) ≡ cond there (further here x) (further here y)
-further_cond here true x y = refl
-further_cond here false x y = refl
-
--- one start more at the end
-pub latest_push : (day s : ℕ) (ss : List ℕ) → latest_on day (ss ++ s ∷ []) ≡ cond (leb s day) (Some (length ss)) (latest_on day ss)
-latest_push day s [] = refl
-latest_push day s (t ∷ ts) =
-    ap (further (leb t day)) (latest_push day s ts) ∙ further_cond (leb t day) (leb s day) (Some (length ts)) (latest_on day ts)
+use Rattle.timeline.proofs.Walks.{mapped_here}
 
 -- what holds of the later places holds with a start put before them
 later : (day s : ℕ) (ss : List ℕ) (i : ℕ) → ((k : ℕ) → i ≤ k → k < length ss → day < get_or ss k 0) → (k : ℕ) → i < k → k < suc (length ss) → day < get_or (s ∷ ss) k 0
@@ -26,23 +17,6 @@ all_later : (day s : ℕ) (ss : List ℕ) → day < s → ((k : ℕ) → k < len
 all_later day s ss h law zero l = h
 all_later day s ss h law (suc k) l = law k (le_of_suc-le-suc l)
 
--- a walk backwards, at a place: the row there has started, or it is passed
-module _ {X : Type 0} (start : X → ℕ) (day : ℕ) (rows : List X) (i : ℕ) (row : X) (some : 0 < i) (within : i ≤ length rows) (e : row ≡ get_or rows (i - 1) row) where
-  latest_back : latest_on day (take i (map start rows)) ≡ cond (leb (start row) day) (Some (i - 1)) (latest_on day (take (i - 1) (map start rows)))
-  latest_back =
-      let next : i ≡ (i - 1) + 1 = omega arith in
-      let long : length (take (i - 1) (map start rows)) ≡ i - 1 = length-take-le (i - 1) (map start rows) (omega (arith, length-map rows start)) in
-      ap (λ n. latest_on day (take n (map start rows))) next
-      ∙ ap (latest_on day) (mapped_push start rows (i - 1) row (omega arith) e)
-      ∙ latest_push day (start row) (take (i - 1) (map start rows))
-      ∙ ap (λ n. cond (leb (start row) day) (Some n) (latest_on day (take (i - 1) (map start rows)))) long
-
-  pub latest_here : start row ≤ day → Some (i - 1) ≡ latest_on day (take i (map start rows))
-  latest_here h = sym (latest_back ∙ cond-true _ _ _ (le-leb _ _ h))
-
-  pub latest_passed : day < start row → latest_on day (take (i - 1) (map start rows)) ≡ latest_on day (take i (map start rows))
-  latest_passed h = sym (latest_back ∙ cond-false _ _ _ (lt-leb _ _ h))
-
 further_law : (day s : ℕ) (ss : List ℕ) (r : Option ℕ) (here : Bool) → leb s day ≡ here → Latest day ss r → Latest day (s ∷ ss) (further here r)
 further_law day s ss (Some k) here e law = (omega arith, law.1, later day s ss (suc k) law.2)
 further_law day s ss None true e law = (omega arith, leb-true s day e, later day s ss 0 (λ k _ l. law k l))
@@ -51,6 +25,42 @@ further_law day s ss None false e law = all_later day s ss (leb-false s day e) l
 pub latest_law : (day : ℕ) (starts : List ℕ) → Latest day starts (latest_on day starts)
 latest_law day [] = λ k h. absurd (not-suc-le-zero h)
 latest_law day (s ∷ ss) = further_law day s ss (latest_on day ss) (leb s day) refl (latest_law day ss)
+
+-- the law tells which place it is
+none_then_some : (day : ℕ) (starts : List ℕ) (i : ℕ) → Latest day starts None → Latest day starts (Some i) → ⊥
+none_then_some day starts i none some = omega (arith, none i some.0, some.1)
+
+same_latest : (day : ℕ) (starts : List ℕ) (q r : Option ℕ) → Latest day starts q → Latest day starts r → q ≡ r
+same_latest day starts None None a b = refl
+same_latest day starts None (Some j) a b = absurd (none_then_some day starts j a b)
+same_latest day starts (Some i) None a b = absurd (none_then_some day starts i b a)
+same_latest day starts (Some i) (Some j) a b =
+    ⊎_elim (λ l. absurd (omega (arith, a.2 j l b.0, b.1)))
+    (λ h.
+    ⊎_elim (λ m. absurd (omega (arith, b.2 i m a.0, a.1))) (λ k. let e : i ≡ j = omega arith in ap Some e) (cases_lt j i))
+    (cases_lt i j)
+
+pub latest_is : (day : ℕ) (starts : List ℕ) (r : Option ℕ) → Latest day starts r → r ≡ latest_on day starts
+latest_is day starts r law = same_latest day starts r (latest_on day starts) law (latest_law day starts)
+
+-- the same of rows and their places
+module _ {X : Type 0} (start : X → ℕ) (day : ℕ) where
+  abbrev pub LatestRow : List X → Option ℕ → Type 0
+  LatestRow rows r =
+      MatchOption r
+      ((k : ℕ) (d : X) → k < length rows → day < start (get_or rows k d))
+      (λ i. (i < length rows) × ((d : X) → start (get_or rows i d) ≤ day) × ((k : ℕ) (d : X) → i < k → k < length rows → day < start (get_or rows k d)))
+
+  pub latest_row : (rows : List X) (r : Option ℕ) → LatestRow rows r → Latest day (map start rows) r
+  latest_row [] None law = λ k h. absurd (not-suc-le-zero h)
+  latest_row [] (Some i) law = absurd (not-suc-le-zero law.0)
+  latest_row (x ∷ xs) None law =
+      λ k h. let l : k < length (x ∷ xs) = omega (arith, h, length-map (x ∷ xs) start) in omega (arith, law k x l, get_or-map start (x ∷ xs) k x 0 l)
+  latest_row (x ∷ xs) (Some i) law = (
+    omega (arith, law.0, length-map (x ∷ xs) start),
+    omega (arith, law.1 x, get_or-map start (x ∷ xs) i x 0 law.0),
+    λ k m h. let l : k < length (x ∷ xs) = omega (arith, h, length-map (x ∷ xs) start) in omega (arith, law.2 k x m l, get_or-map start (x ∷ xs) k x 0 l),
+  )
 
 module _ {X : Type 0} (start last : X → ℕ) (day : ℕ) where
   -- the row at the end
@@ -83,9 +93,9 @@ module _ {X : Type 0} (start last : X → ℕ) (day : ℕ) where
   further_row x xs None true law e = ap (instead x) e
   further_row x xs None false law e = e
 
-  latest_row : (rows : List X) → row_at rows (latest_on day (map start rows)) ≡ final (started start day rows)
-  latest_row [] = refl
-  latest_row (x ∷ xs) = further_row x xs (latest_on day (map start xs)) (leb (start x) day) (latest_law day (map start xs)) (latest_row xs)
+  final_row : (rows : List X) → row_at rows (latest_on day (map start rows)) ≡ final (started start day rows)
+  final_row [] = refl
+  final_row (x ∷ xs) = further_row x xs (latest_on day (map start xs)) (leb (start x) day) (latest_law day (map start xs)) (final_row xs)
 
   unended_row : (rows : List X) (r : Option ℕ) → Latest day (map start rows) r → row_at rows (unless_past day (map (term start last) rows) r) ≡ unended (row_at rows r)
   unended_row rows None law = refl
@@ -104,7 +114,7 @@ module _ {X : Type 0} (start last : X → ℕ) (day : ℕ) where
   row_on_lem rows =
       ap (λ ss. row_at rows (unless_past day (map (term start last) rows) (latest_on day ss))) (starts_of rows)
       ∙ unended_row rows (latest_on day (map start rows)) (latest_law day (map start rows))
-      ∙ ap unended (latest_row rows)
+      ∙ ap unended (final_row rows)
 
   pub by_started : (rows : List X) (place : Option ℕ) → place ≡ in_effect day (map (term start last) rows) → ByStarted start last day rows place
   by_started rows place p others e = ap (row_at rows) p ∙ row_on_lem rows ∙ ap (λ xs. unended (final xs)) e ∙ sym (row_on_lem others)
@@ -115,11 +125,12 @@ module _ {X : Type 0} (start last : X → ℕ) (day : ℕ) where
       ∙ ap (unless_past day (map (term start last) rows)) (sym found)
       ∙ ap (λ t. cond (leb day t.1) (Some i) None) (mapped_here (term start last) rows i row (0, 0) h e)
 
-  pub effect_here : (rows : List X) (i : ℕ) (row : X) → i < length rows → row ≡ get_or rows i row → Some i ≡ latest_on day (map start rows) → day ≤ last row → Some i ≡ in_effect day (map (term start last) rows)
-  effect_here rows i row h e found on = sym (effect_some rows i row h e found ∙ cond-true _ _ _ (le-leb _ _ on))
+  unless_ended : (on : Bool) (i : ℕ) → then_some on i ≡ cond on (Some i) None
+  unless_ended true i = refl
+  unless_ended false i = refl
 
-  pub effect_past : (rows : List X) (i : ℕ) (row : X) → i < length rows → row ≡ get_or rows i row → Some i ≡ latest_on day (map start rows) → last row < day → None ≡ in_effect day (map (term start last) rows)
-  effect_past rows i row h e found past = sym (effect_some rows i row h e found ∙ cond-false _ _ _ (lt-leb _ _ past))
+  pub effect_then : (rows : List X) (i : ℕ) (row : X) → i < length rows → row ≡ get_or rows i row → Some i ≡ latest_on day (map start rows) → then_some (leb day (last row)) i ≡ in_effect day (map (term start last) rows)
+  effect_then rows i row h e found = unless_ended (leb day (last row)) i ∙ sym (effect_some rows i row h e found)
 
   pub effect_none : (rows : List X) → None ≡ latest_on day (map start rows) → None ≡ in_effect day (map (term start last) rows)
   effect_none rows none =

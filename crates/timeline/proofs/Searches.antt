@@ -1,7 +1,9 @@
 -- Walks over spans that stop at the first of which something holds.
-use Rattle.std.proofs.Common.{◌≡◌, ℕ, ◌+◌, ◌-◌, ◌<◌, ◌≤◌, min, max, true, false, List, map, length, get_or, take, drop, Decides, sym, refl, ap, ◌∙◌, subst, arith, below_more}
-use Rattle.std.proofs.lemmas.List.{length-map, length-drop, get_or-drop}
+use Rattle.std.proofs.Common.{◌≡◌, ℕ, ◌+◌, ◌-◌, ◌<◌, ◌≤◌, min, max, Bool, true, false, List, [], ◌∷◌, map, length, get_or, take, drop, Decides, sym, refl, ap, ◌∙◌, subst, arith, below_more}
+use Rattle.std.proofs.lemmas.List.{get_or-map, length-map, length-drop, get_or-drop}
 use Rattle.std.proofs.lemmas.Bool.{false≢true}
+use Rattle.std.specs.Bool.{MatchBool}
+use Rattle.std.specs.List.{HoldsAt, AllWithin}
 use Rattle.timeline.specs.Finding.{Term}
 use Rattle.timeline.specs.Spans.{Meet, Somewhere, Overlap}
 use Rattle.timeline.proofs.Walks.{mapped_here, mapped_rest}
@@ -16,20 +18,24 @@ meet_by s t (day, p, q) = (omega arith, omega arith)
 meet_at : (s s' t t' : Term) → s ≡ s' → t ≡ t' → Meet s t → Meet s' t'
 meet_at s s' t t' p q m = subst (Meet s') q (subst (λ u. Meet u t) p m)
 
-module _ {X : Type 0} (f : X → Term) (P : Term → Type 0) (xs : List X) (i : ℕ) where
-  -- P holds at no place that was passed
-  abbrev pub Passed : Type 0
-  Passed = (k : ℕ) → k < i → P (get_or (map f xs) k (0, 0)) → ⊥
+module _ {X : Type 0} (f : X → Term) (P : Term → Type 0) where
+  at_span : (xs : List X) (x : X) (k : ℕ) → k < length xs → P (f (get_or xs k x)) → P (get_or (map f xs) k (0, 0))
+  at_span xs x k h = subst P (sym (get_or-map f xs k x (0, 0) h))
 
-  pub passed_all : length xs ≤ i → Passed → Decides false (Somewhere P (map f xs))
-  passed_all h passed = (λ e. absurd (false≢true e), λ r. absurd (passed r.0 (omega (arith, r.1, length-map xs f)) r.2))
+  at_row : (xs : List X) (x : X) (k : ℕ) → k < length xs → P (get_or (map f xs) k (0, 0)) → P (f (get_or xs k x))
+  at_row xs x k h = subst P (get_or-map f xs k x (0, 0) h)
 
-  module _ (x : X) (h : i < length xs) (e : x ≡ get_or xs i x) where
-    pub passed_more : Passed → Decides false (P (f x)) → (k : ℕ) → k < i + 1 → P (get_or (map f xs) k (0, 0)) → ⊥
-    passed_more passed d = below_more _ i passed (λ p. false≢true (d.1 (subst P (mapped_here f xs i x (0, 0) h e) p)))
-
-    pub found_here : Decides true (P (f x)) → Decides true (Somewhere P (map f xs))
-    found_here d = (λ _. (i, omega (arith, length-map xs f), subst P (sym (mapped_here f xs i x (0, 0) h e)) (d.0 refl)), λ _. refl)
+  -- what `any` answers, where each call decides P of the span of its row
+  pub somewhere : (xs : List X) (r : Bool) → MatchBool r ((k : ℕ) × (k < length xs) × HoldsAt (λ x. P (f x)) xs k) (AllWithin (λ x. P (f x) → ⊥) xs 0 (length xs)) → Decides r (Somewhere P (map f xs))
+  somewhere [] true h = absurd (omega (arith, h.1))
+  somewhere [] false h = (λ e. absurd (false≢true e), λ s. absurd (omega (arith, s.1)))
+  somewhere (x ∷ xs) true h = (λ _. (h.0, omega (arith, h.1, length-map (x ∷ xs) f), at_span (x ∷ xs) x h.0 h.1 (h.2 x)), λ _. refl)
+  somewhere (x ∷ xs) false h = (
+    λ e. absurd (false≢true e),
+    λ s.
+        let l : s.0 < length (x ∷ xs) = omega (arith, s.1, length-map (x ∷ xs) f) in
+        absurd (h s.0 x (omega arith) l (at_row (x ∷ xs) x s.0 l s.2)),
+  )
 
 module _ {X : Type 0} (f : X → Term) (xs : List X) (i : ℕ) where
   -- no span that was passed meets a later one

@@ -9,12 +9,7 @@ pub fn latest<T: Dated>(rows: &[T], day: u16) -> Option<usize>
     ensures value { result ≡ latest_on day (map T.start_of rows.now) }
     ensures law { Latest day (map T.start_of rows.now) result }
 {
-    for i in (0..rows.len()).rev() {
-        if rows[i].start() <= day {
-            return Some(i);
-        }
-    }
-    None
+    rows.iter().rposition(|row| row.start() <= day)
 }
 
 // The place of the row in effect on the day: of the latest, unless the day is past its last.
@@ -23,10 +18,8 @@ pub fn in_effect<T: Dated>(rows: &[T], day: u16) -> Option<usize>
     ensures within { IfSome result (λ i. i < length rows.now) }
     ensures started { ByStarted T.start_of T.last_of day rows.now result }
 {
-    match latest(rows, day) {
-        Some(i) => if day <= rows[i].last() { Some(i) } else { None },
-        None => None,
-    }
+    let place = latest(rows, day)?;
+    (day <= rows[place].last()).then_some(place)
 }
 
 // How many rows stand before the first that starts on or after the cut day.
@@ -35,12 +28,7 @@ pub fn kept<T: Dated>(rows: &[T], cut: u16) -> usize
     ensures within { result ≤ length rows.now }
     ensures law { StartedBefore T.start_of cut rows.now result }
 {
-    for (i, row) in rows.iter().enumerate() {
-        if row.start() >= cut {
-            return i;
-        }
-    }
-    rows.len()
+    rows.iter().take_while(|row| row.start() < cut).count()
 }
 
 // The rows that stand before the first that starts on or after the cut day.

@@ -15,12 +15,7 @@ pub fn straddles<T: Span>(row: &T, day: u16) -> bool
 pub fn any_straddles<T: Span>(rows: &[T], day: u16) -> bool
     ensures { Decides result (Somewhere (Straddles day) (map (span_term T.Dated.start_of T.end_of) rows.now)) }
 {
-    for row in rows {
-        if straddles(row, day) {
-            return true;
-        }
-    }
-    false
+    rows.iter().any(|row| straddles(row, day))
 }
 
 // Whether a day lies in both spans.
@@ -35,12 +30,7 @@ fn meets<T: Span>(a: &T, b: &T) -> bool
 fn meets_any<T: Span>(row: &T, others: &[T]) -> bool
     ensures { Decides result (Somewhere (Meet (span_term T.Dated.start_of T.end_of row.now)) (map (span_term T.Dated.start_of T.end_of) others.now)) }
 {
-    for other in others {
-        if meets(row, other) {
-            return true;
-        }
-    }
-    false
+    others.iter().any(|other| meets(row, other))
 }
 
 // Whether a day lies in two of the spans.

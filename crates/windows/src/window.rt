@@ -5,7 +5,7 @@ ghost use Rattle.std.specs.Prelude.{◌≡◌, ◌≤◌, length, ⊤};
 
 use fields::letters::{Group, MeasurementClass, Status};
 use fields::states::{Collector, LineLossClass, Profile, Supplier};
-use rows::kept::{Kept, StateValue};
+use rows::kept::{Kept, STATE_MAXIMUM};
 use rows::row::{Advance, Appointment, Estimate, State};
 use std::alloc::AllocError;
 
@@ -30,21 +30,21 @@ impl<T: Copy, const MAX: usize> Clone for Window<T, MAX> {
 impl<T: Copy, const MAX: usize> Copy for Window<T, MAX> {}
 
 // A window of each kind has as many places as rows of the kind are kept at most.
-pub type Registrations = Window<State<Supplier>, { Supplier::MAXIMUM }>;
+pub type Registrations = Window<State<Supplier>, { STATE_MAXIMUM }>;
 
 pub type Appointments = Window<Appointment, { Appointment::MAXIMUM }>;
 
-pub type Collectors = Window<State<Collector>, { Collector::MAXIMUM }>;
+pub type Collectors = Window<State<Collector>, { STATE_MAXIMUM }>;
 
-pub type Profiles = Window<State<Profile>, { Profile::MAXIMUM }>;
+pub type Profiles = Window<State<Profile>, { STATE_MAXIMUM }>;
 
-pub type Measurements = Window<State<MeasurementClass>, { MeasurementClass::MAXIMUM }>;
+pub type Measurements = Window<State<MeasurementClass>, { STATE_MAXIMUM }>;
 
-pub type Energisations = Window<State<Status>, { Status::MAXIMUM }>;
+pub type Energisations = Window<State<Status>, { STATE_MAXIMUM }>;
 
-pub type LineLosses = Window<State<LineLossClass>, { LineLossClass::MAXIMUM }>;
+pub type LineLosses = Window<State<LineLossClass>, { STATE_MAXIMUM }>;
 
-pub type Groups = Window<State<Group>, { Group::MAXIMUM }>;
+pub type Groups = Window<State<Group>, { STATE_MAXIMUM }>;
 
 pub type Advances = Window<Advance, { Advance::MAXIMUM }>;
 

@@ -1,36 +1,29 @@
-use Rattle.std.proofs.Common.{◌≡◌, ◌<◌, map, length, Some, None, arith}
+use Rattle.std.proofs.Common.{rules, ◌≡◌, ◌<◌, ◌∙◌, length, map, leb, ap, arith}
+use Rattle.std.specs.Bool.{then_some}
 use Rattle.std.proofs.lemmas.List.{length-map}
 use Rattle.timeline.specs.Finding.{term, in_effect}
-use Rattle.timeline.proofs.Latest.{effect_here, effect_past, effect_none, by_started}
+use Rattle.timeline.proofs.Latest.{effect_then, effect_none, by_started}
 use Rattle.timeline.proofs.finding.in_effect.Goals as goal
 
-pub offset_bounds-rows-i : goal.offset_bounds-rows-i
-offset_bounds-rows-i g c = omega (arith, c.in-Some.ensures.law.0, length-map c.args.rows.now g.T.Dated.start_of)
-
-pub bounds-rows-i : goal.bounds-rows-i
-bounds-rows-i g c = omega (arith, c.in-Some.ensures.law.0, length-map c.args.rows.now g.T.Dated.start_of)
-
-pub returns-then-day-last : goal.returns-then-day-last
-returns-then-day-last g c =
+pub returns-in_err-place : goal.returns-in_err-place
+returns-in_err-place g c =
     let start = g.T.Dated.start_of in
     let last = g.T.Dated.last_of in
-    let h : c.in-Some.i < length c.args.rows.now = omega (arith, c.in-Some.ensures.law.0, length-map c.args.rows.now start) in
-    let e : Some c.in-Some.i ≡ in_effect c.args.day (map (term start last) c.args.rows.now) =
-    effect_here start last c.args.day c.args.rows.now c.in-Some.i c.index-rows-i.result h c.index-rows-i.is c.in-Some.ensures.value (omega arith) in
-    record { value = e; within = h; started = by_started start last c.args.day c.args.rows.now _ e }
+    let rows = c.args.rows.now in
+    let e : c.from_residual.result ≡ in_effect c.args.day (map (term start last) rows) =
+    c.from_residual.ensures ∙ effect_none start last c.args.day rows c.in_err-place.ensures.value in
+    record { value = e; within = search rules; started = by_started start last c.args.day rows _ e }
 
-pub returns-else-day-last : goal.returns-else-day-last
-returns-else-day-last g c =
+pub returns : goal.returns
+returns g c =
     let start = g.T.Dated.start_of in
     let last = g.T.Dated.last_of in
-    let h : c.in-Some.i < length c.args.rows.now = omega (arith, c.in-Some.ensures.law.0, length-map c.args.rows.now start) in
-    let e : None ≡ in_effect c.args.day (map (term start last) c.args.rows.now) =
-    effect_past start last c.args.day c.args.rows.now c.in-Some.i c.index-rows-i.result h c.index-rows-i.is c.in-Some.ensures.value (omega arith) in
-    record { value = e; within = tt; started = by_started start last c.args.day c.args.rows.now _ e }
-
-pub returns-in-None : goal.returns-in-None
-returns-in-None g c =
-    let start = g.T.Dated.start_of in
-    let last = g.T.Dated.last_of in
-    let e : None ≡ in_effect c.args.day (map (term start last) c.args.rows.now) = effect_none start last c.args.day c.args.rows.now c.in-None.ensures.value in
-    record { value = e; within = tt; started = by_started start last c.args.day c.args.rows.now _ e }
+    let rows = c.args.rows.now in
+    let place = c.in_ok-place.place in
+    let found = c.in_ok-place.ensures in
+    let h : place < length rows = omega (arith, found.law.0, length-map rows start) in
+    let e : c.then_some.result ≡ in_effect c.args.day (map (term start last) rows) =
+    c.then_some.ensures
+    ∙ ap (λ n. then_some (leb c.args.day n) place) c.last.ensures
+    ∙ effect_then start last c.args.day rows place c.index-rows-place.result h c.index-rows-place.is found.value in
+    record { value = e; within = search rules; started = by_started start last c.args.day rows _ e }

@@ -12,21 +12,6 @@ returns-then-not-follows g c =
       ascends = λ up. up;
     }
 
-pub listed : goal.listed
-listed g c = omega (arith, (c.if-not-follows.ensures.0 refl).0)
-
-pub bounds-self-count : goal.bounds-self-count
-bounds-self-count g c = omega (arith, (c.if-not-follows.ensures.0 refl).0)
-
-pub overflow_add-self : goal.overflow_add-self
-overflow_add-self g c = omega (arith, (c.if-not-follows.ensures.0 refl).0)
-
-pub invariant_of-self : goal.invariant_of-self
-invariant_of-self g c = record {
-  places = length-set c.args.self.now.rows c.args.self.now.count c.args.row ∙ c.args.self.now.places;
-  within = omega (arith, (c.if-not-follows.ensures.0 refl).0);
-}
-
 pub returns : goal.returns
 returns g c =
     let start = g.T.Dated.start_of in

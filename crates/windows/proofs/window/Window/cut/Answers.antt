@@ -5,11 +5,6 @@ use Rattle.timeline.specs.Finding.{before}
 use Rattle.windows.proofs.Ascents.{rows_taken}
 use Rattle.windows.proofs.window.Window.cut.Goals as goal
 
-pub invariant_of-self : goal.invariant_of-self
-invariant_of-self g c =
-    let long = ap length c.rows.ensures ∙ length-take c.args.self.now.count c.args.self.now.rows in
-    record { places = c.args.self.now.places; within = omega (arith, c.kept-count.ensures.within) }
-
 pub returns : goal.returns
 returns g c =
     let rows = c.args.self.now.rows in
