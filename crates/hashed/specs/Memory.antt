@@ -1,11 +1,8 @@
--- What the lent memory means, and when it is sound.
+-- What the lent memory means.
 use Rattle.std.specs.Prelude.{List}
 use Rattle.register.specs.Folders.{Folder}
-use Rattle.hashed.specs.Table.{folders_of, links_of, held_in, Sound}
-use Rattle.hashed.specs.declared.table.Table.{Table}
+use Rattle.hashed.specs.Table.{folders_of, held_in}
+use Rattle.hashed.specs.declared.hashing.Hashed.{Hashed}
 
-abbrev pub table_folders : Table → List Folder
-table_folders t = held_in (folders_of t.blocks.now) t.count
-
-abbrev pub SoundTable : Table → Type 0
-SoundTable t = Sound t.heads.now (folders_of t.blocks.now) (links_of t.blocks.now) t.order.now t.count t.places
+abbrev pub held_folders : Hashed → List Folder
+held_folders h = held_in (folders_of h.blocks.now) h.count

@@ -5,4 +5,3 @@ mod chains;
 mod changes;
 pub mod hashing;
 mod orders;
-mod table;

@@ -3,12 +3,12 @@ use Rattle.std.proofs.lemmas.List.{length-map}
 use Rattle.blocks.specs.Block.{folder_of}
 use Rattle.register.specs.Folders.{Rows}
 use Rattle.hashed.proofs.Readings.{rows_none, rows_read}
-use Rattle.hashed.proofs.table.Table.count.Goals as goal
+use Rattle.hashed.proofs.hashing.keeping.HashedRegister.count.Goals as goal
 
 pub returns-in-Some : goal.returns-in-Some
 returns-in-Some c =
     let t = c.args.self.now in
-    let h : c.in-Some.place < length c.args.self.now.blocks.now = omega (arith, c.in-Some.ensures.within, c.requires.used, c.requires.blocked, length-map c.args.self.now.blocks.now folder_of) in
+    let h : c.in-Some.place < length c.args.self.now.blocks.now = omega (arith, c.in-Some.ensures.within, c.args.self.now.sound.used, c.args.self.now.sound.blocked, length-map c.args.self.now.blocks.now folder_of) in
     c.count.ensures
     ∙ ap (λ (rows : Rows). length (rows c.args.kind))
     (sym (rows_read t.blocks.now t.count c.args.pair c.in-Some.place (sym c.in-Some.ensures.value) c.index-blocks-place.result h c.index-blocks-place.is))
