@@ -4,8 +4,7 @@ ghost use Rattle.register.specs.Folders.{made, makeable, cut_folders, added_fold
 ghost use Rattle.ordered.specs.Entries.{folders_in, Sound, Counted};
 
 use crate::entries::Entry;
-use crate::finding::part;
-use crate::placing::{folder_place, row_place};
+use crate::finding::Sorted;
 use crate::shifting::{put, take_out};
 use register::pairs::Pair;
 use rows::kinds::Kind;
@@ -25,7 +24,10 @@ pub(crate) fn make(
     ensures after { folders_in entries.new used.new ≡ (if result then made pair (folders_in entries.old used.old) else folders_in entries.old used.old) }
 {
     let count = *used;
-    let Some(at) = folder_place(&entries[..count], pair) else {
+    let sorted = Sorted {
+        entries: &entries[..count],
+    };
+    let Some(at) = sorted.folder_place(pair) else {
         return true;
     };
     if *held >= places {
@@ -45,7 +47,10 @@ pub(crate) fn add(entries: &mut [Entry], used: &mut usize, pair: Pair, row: Row)
     ensures after { folders_in entries.new used.new ≡ (if result then added_folders pair row (folders_in entries.old used.old) else folders_in entries.old used.old) }
 {
     let count = *used;
-    let Some(at) = row_place(&entries[..count], pair, row) else {
+    let sorted = Sorted {
+        entries: &entries[..count],
+    };
+    let Some(at) = sorted.row_place(pair, row) else {
         return false;
     };
     put(entries, count, at, Entry::of_row(pair, row));
@@ -60,7 +65,10 @@ pub(crate) fn cut(entries: &mut [Entry], used: &mut usize, pair: Pair, kind: Kin
     ensures after { folders_in entries.new used.new ≡ cut_folders pair kind day (folders_in entries.old used.old) }
 {
     let count = *used;
-    let (from, gone) = part(&entries[..count], pair, kind, day);
-    take_out(entries, count, from, gone);
-    *used = count - gone;
+    let sorted = Sorted {
+        entries: &entries[..count],
+    };
+    let gone = sorted.part(pair, kind, day);
+    take_out(entries, count, gone.start, gone.end - gone.start);
+    *used = count - (gone.end - gone.start);
 }

@@ -7,7 +7,6 @@ ghost use Rattle.ordered.specs.Memory.{folders_held};
 
 use crate::capacity::entries_per_folder;
 use crate::entries::Entry;
-use crate::finding;
 use crate::memory::Memory;
 use register::pairs::Pair;
 use register::registers::Register;
@@ -63,15 +62,15 @@ impl<'a> Register for Ordered<'a> {
     }
 
     fn next(&self, pair: Pair) -> Option<Pair> {
-        finding::next(&self.memory.entries[..self.memory.used], pair)
+        self.memory.sorted().next(pair)
     }
 
     fn count(&self, pair: Pair, kind: Kind) -> usize {
-        finding::count(&self.memory.entries[..self.memory.used], pair, kind)
+        self.memory.sorted().count(pair, kind)
     }
 
     fn read(&self, pair: Pair, kind: Kind, place: usize, row: &mut Option<Row>) {
-        *row = finding::read(&self.memory.entries[..self.memory.used], pair, kind, place);
+        *row = self.memory.sorted().read(pair, kind, place);
     }
 
     fn make(&mut self, system: MeteringSystem, view: u16) -> bool {

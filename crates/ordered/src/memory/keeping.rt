@@ -1,15 +1,28 @@
 // Folders made, cut, added to and forgotten, with the counts kept right.
-ghost use Rattle.std.specs.Prelude.{◌≡◌, [], if◌then◌else◌};
+ghost use Rattle.std.specs.Prelude.{◌≡◌, ◌≤◌, true, [], length, take, if◌then◌else◌};
+ghost use Rattle.ordered.specs.Entries.{in_order};
 ghost use Rattle.register.specs.Folders.{made, makeable, cut_folders, added_folders, addable};
 ghost use Rattle.ordered.specs.Memory.{folders_held, CountedMemory};
 
 use crate::changing;
+use crate::finding::Sorted;
 use crate::memory::Memory;
 use register::pairs::Pair;
 use rows::kinds::Kind;
 use rows::row::Row;
 
 impl<'a> Memory<'a> {
+    // The used entries.
+    pub(crate) fn sorted(&self) -> Sorted
+        requires within { self.now.used ≤ length self.now.entries.now }
+        requires order { in_order (take self.now.used self.now.entries.now) ≡ true }
+        ensures { result.entries.now ≡ take self.now.used self.now.entries.now }
+    {
+        Sorted {
+            entries: &self.entries[..self.used],
+        }
+    }
+
     pub(crate) fn make(&mut self, pair: Pair) -> bool
         requires { CountedMemory self.old }
         ensures counted { CountedMemory self.new }
