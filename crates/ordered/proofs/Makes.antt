@@ -13,9 +13,9 @@ use Rattle.rows.specs.declared.kinds.Kind.{Kind}
 use Rattle.rows.specs.declared.row.Row.{Row}
 use Rattle.ordered.specs.declared.entries.Entry.{Entry}
 use Rattle.ordered.specs.Keys.{key_of, lower}
-use Rattle.ordered.specs.Entries.{folders_of, in_order, Over, Ascends, Put, Few}
+use Rattle.ordered.specs.Entries.{folders_of, in_order, Put, Few}
 use Rattle.ordered.specs.Order.{lower_read, entry}
-use Rattle.ordered.proofs.Points.{ascends, ascends_drop}
+use Rattle.ordered.proofs.Points.{Over, Ascends, ascends, ascends_drop}
 use Rattle.ordered.proofs.Meanings.{rows_in, has_pair, rows_are, held_are}
 use Rattle.ordered.proofs.Parts.{rows_in_append}
 use Rattle.ordered.proofs.Changes.{pinned, pairs_append, rows_made, pairs_made}

@@ -11,9 +11,17 @@ use Rattle.std.proofs.lemmas.List.Sorted.{IsPartitionPoint-from_clause}
 use Rattle.std.proofs.lemmas.Bool.{and_parts, cases_lt}
 use Rattle.ordered.specs.declared.entries.Entry.{Entry}
 use Rattle.ordered.specs.Keys.{key_of, lower}
-use Rattle.ordered.specs.Entries.{is_folder, in_order_from, in_order, Over, Ascends}
+use Rattle.ordered.specs.Entries.{is_folder, in_order_from, in_order}
 use Rattle.ordered.proofs.Probes.{lower_onward}
 use Rattle.ordered.specs.Order.{behind_rest, behind_lower}
+
+-- of any two entries the later is above
+abbrev pub Over : Entry → List Entry → Type 0
+Over e xs = AllByRecursion (λ x. lower (key_of e) (key_of x) ≡ true) xs
+
+abbrev pub Ascends : List Entry → Type 0
+Ascends [] = Unit {0}
+Ascends (x ∷ xs) = Over x xs × Ascends xs
 
 over_onward : (e x : Entry) (xs : List Entry) → lower (key_of e) (key_of x) ≡ true → Over x xs → Over e xs
 over_onward e x xs h = All-weaker (λ y. lower (key_of x) (key_of y) ≡ true) (λ y. lower (key_of e) (key_of y) ≡ true) (λ y g. lower_onward (key_of e) (key_of x) (key_of y) h g) xs
