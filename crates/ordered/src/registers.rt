@@ -87,16 +87,16 @@ impl<'a> Register for Ordered<'a> {
 
     fn make(&mut self, system: MeteringSystem, view: u16) -> bool {
         let pair = system.with_view(view);
-        let Some(at) = self.sorted().folder_place(pair) else {
-            return true;
-        };
-        if self.held >= self.places {
-            return false;
+        match self.sorted().folder_place(pair) {
+            Some(at) if self.held < self.places => {
+                put(self.entries, self.used, at, Entry::folder(pair));
+                self.used += 1;
+                self.held += 1;
+                true
+            }
+            Some(_) => false,
+            None => true,
         }
-        put(self.entries, self.used, at, Entry::folder(pair));
-        self.used += 1;
-        self.held += 1;
-        true
     }
 
     fn cut(&mut self, system: MeteringSystem, view: u16, kind: Kind, day: u16) {
