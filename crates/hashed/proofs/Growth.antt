@@ -1,9 +1,8 @@
 -- One block more.
-use Rattle.std.proofs.Common.{◌≡◌, ℕ, zero, suc, ◌+◌, ◌-◌, ◌<◌, ◌≤◌, Bool, true, false, cond, eqb, ltb, List, [], ◌∷◌, ◌++◌, map, length, get_or, take, drop, set, sym, refl, ap, ◌∙◌, subst, ⊎_elim, add-one, arith, length-append, length-drop}
-use Rattle.std.specs.List.{AllByRecursion}
+use Rattle.std.proofs.Common.{◌≡◌, ℕ, zero, suc, ◌+◌, ◌<◌, ◌≤◌, Bool, true, false, cond, eqb, ltb, List, [], ◌∷◌, ◌++◌, map, length, get_or, take, drop, set, sym, refl, ap, ◌∙◌, subst, ⊎_elim, add-one, arith}
+use Rattle.std.specs.List.{insert, AllByRecursion}
 use Rattle.std.proofs.ByRecursion.{All-weaker, All-take, All-drop, All-append, All-get_or}
-use Rattle.std.proofs.lemmas.List.{length-map, length-set, length-take-le, get_or-take, get_or-set_same, get_or-set_other, take-take, take_at, take-append-drop, take-map, drop-map, map-append}
-use Rattle.std.proofs.lemmas.Slice.{between_is}
+use Rattle.std.proofs.lemmas.List.{length-map, length-set, length-take-le, get_or-take, get_or-set_same, get_or-set_other, take-append-drop, take-map, drop-map, map-append}
 use Rattle.std.proofs.lemmas.Bool.{cases_eq, cases_lt, eq-eqb, ne_eqb, cond-true, cond-false}
 use Rattle.blocks.specs.Block.{empty_folder}
 use Rattle.register.specs.declared.pairs.Pair.{Pair}
@@ -11,7 +10,8 @@ use Rattle.register.specs.Folders.{Folder, same, below, holds, lowest}
 use Rattle.register.specs.Walks.{pairs_of}
 use Rattle.hashed.specs.Filing.{filed}
 use Rattle.register.proofs.PairOrder.{below_not_same, above_not_same, above_not_below, else_above}
-use Rattle.hashed.specs.Table.{folder_at, pair_at, held_in, home_of, last, seek, Linked, Ordered, Sound}
+use Rattle.hashed.specs.Table.{folder_at, pair_at, held_in, home_of, last, seek}
+use Rattle.hashed.proofs.Sound.{Linked, Ordered, Sound}
 use Rattle.hashed.proofs.Filings.{holds_gathered, all_absent, gathered_same}
 use Rattle.hashed.proofs.Searches.{keys, long, inside_all}
 
@@ -121,25 +121,12 @@ module _ (heads : List ℕ) (fs : List Folder) (links order : List ℕ) (n place
         }
 
   -- the order
-  module _ (at : ℕ) (absent : seek (pair_at fs) x.pair n ≡ 0) (place : at ≤ n) (before : AllByRecursion (λ q. below x.pair q ≡ false) (take at (keys fs order n))) (behind : AllByRecursion (λ q. below x.pair q ≡ true) (drop at (keys fs order n))) (order' : List ℕ) (is : order' ≡ take at order ++ (n ∷ take (n - at) (drop at order)) ++ drop (n + 1) order) (as_long : length order' ≡ length order) where
+  module _ (at : ℕ) (absent : seek (pair_at fs) x.pair n ≡ 0) (place : at ≤ n) (before : AllByRecursion (λ q. below x.pair q ≡ false) (take at (keys fs order n))) (behind : AllByRecursion (λ q. below x.pair q ≡ true) (drop at (keys fs order n))) (order' : List ℕ) (front : take (n + 1) order' ≡ insert (take n order) at n) (as_long : length order' ≡ length order) where
     not_held : holds x.pair (held_in fs n) ≡ false
     not_held = holds_gathered (folder_at fs) x.pair n ∙ ap (ltb 0) absent
 
     all_in : AllByRecursion (λ b. b < n) (take n order)
     all_in = inside_all fs order n (omega (arith, sound.listed)) sound.ordered
-
-    os_length : length (take n order) ≡ n
-    os_length = length-take-le n order (omega (arith, sound.listed))
-
-    front : take (n + 1) order' ≡ take at (take n order) ++ n ∷ drop at (take n order)
-    front =
-        let a : length (take at order) ≡ at = length-take-le at order (omega (arith, sound.listed)) in
-        let b : length (drop at (take n order)) ≡ length (take n order) - at = length-drop at (take n order) in
-        let m = between_is order at n in
-        let s : length (take at order ++ n ∷ take (n - at) (drop at order)) ≡ n + 1 = length-append (take at order) (n ∷ take (n - at) (drop at order)) ∙ omega (arith, a, b, os_length, ap length m) in
-        ap (take (n + 1)) is ∙ take_at (take at order ++ n ∷ take (n - at) (drop at order)) (drop (n + 1) order) (n + 1) s
-        ∙ ap (λ l. take at order ++ n ∷ l) m
-        ∙ ap (λ l. l ++ n ∷ drop at (take n order)) (sym (take-take at n order place))
 
     under : AllByRecursion (λ q. below q x.pair ≡ true) (take at (keys fs order n))
     under =

@@ -1,9 +1,11 @@
+pub mod Changed
 pub mod Filings
 pub mod Growth
+pub mod Kept
 pub mod NewBlock
 pub mod OtherRows
 pub mod Readings
 pub mod Room
 pub mod Searches
-pub mod Shifts
+pub mod Sound
 pub mod Walks

@@ -1,5 +1,5 @@
 -- One block with other rows.
-use Rattle.std.proofs.Common.{◌≡◌, ℕ, zero, suc, ◌-◌, ◌<◌, Bool, true, false, cond, ◌&&◌, ltb, List, length, take, set, sym, refl, ap, ◌∙◌, subst, ⊎_elim, arith}
+use Rattle.std.proofs.Common.{◌≡◌, ℕ, zero, suc, ◌<◌, Bool, true, false, cond, ◌&&◌, ltb, List, length, take, set, sym, refl, ap, ◌∙◌, subst, ⊎_elim, arith}
 use Rattle.std.proofs.lemmas.List.{length-set, get_or-set_same, get_or-set_other}
 use Rattle.std.proofs.lemmas.Bool.{cases_eq, lt-ltb}
 use Rattle.blocks.specs.Block.{empty_folder, with_rows}
@@ -9,8 +9,9 @@ use Rattle.register.specs.Folders.{Rows, Folder, holds, rows_of, changed, addabl
 use Rattle.rows.specs.declared.row.Row.{Row}
 use Rattle.register.specs.Walks.{pairs_of}
 use Rattle.hashed.specs.Filing.{gathered}
-use Rattle.hashed.specs.Table.{folder_at, pair_at, held_in, home_of, last, seek, Sound}
-use Rattle.hashed.proofs.Filings.{holds_gathered, rows_gathered, rows_found, changed_gathered}
+use Rattle.hashed.specs.Table.{folder_at, pair_at, held_in, home_of, last, seek}
+use Rattle.hashed.proofs.Sound.{Sound}
+use Rattle.hashed.proofs.Filings.{holds_gathered, rows_gathered, rows_found, seek_le, changed_gathered}
 use Rattle.hashed.proofs.Growth.{last_same, map_same, pairs_filed, slot}
 use Rattle.hashed.proofs.Searches.{inside_all}
 
@@ -53,40 +54,40 @@ module _ (fs : List Folder) (count b : ℕ) (v : Rows → Rows) (within : b < le
         };
       }
 
--- what was found of a pair: its place is one below, or there is none
-module _ (fs : List Folder) (count : ℕ) (k : Pair) (found : ℕ) (is : found ≡ seek (pair_at fs) k count) where
-  pub absent : found ≡ 0 → holds k (held_in fs count) ≡ false
-  absent e = holds_gathered (folder_at fs) k count ∙ ap (ltb 0) (sym is ∙ e)
+-- what was found of a pair: its place, or none
+module _ (fs : List Folder) (count : ℕ) (k : Pair) where
+  pub absent : seek (pair_at fs) k count ≡ 0 → holds k (held_in fs count) ≡ false
+  absent e = holds_gathered (folder_at fs) k count ∙ ap (ltb 0) e
 
-  module _ (some : 0 < found) where
-    present : holds k (held_in fs count) ≡ true
+  module _ (at : ℕ) (found : seek (pair_at fs) k count ≡ suc at) where
+    pub present : holds k (held_in fs count) ≡ true
     present = holds_gathered (folder_at fs) k count ∙ lt-ltb 0 (seek (pair_at fs) k count) (omega arith)
 
-    at_place : seek (pair_at fs) k count ≡ suc (found - 1)
-    at_place = let next : found ≡ suc (found - 1) = omega arith in sym is ∙ next
+    pub inside : at < count
+    inside = omega (arith, seek_le (pair_at fs) k count)
 
-    pub takes_answer : (row : Row) (r : Bool) → r ≡ takes_row (folder_at fs (found - 1)).rows row → r ≡ addable k row (held_in fs count)
+    pub takes_answer : (row : Row) (r : Bool) → r ≡ takes_row (folder_at fs at).rows row → r ≡ addable k row (held_in fs count)
     takes_answer row r e =
         e
-        ∙ ap (λ (rows : Rows). takes_row rows row) (sym (rows_gathered (folder_at fs) k count ∙ ap (rows_found (folder_at fs)) at_place))
+        ∙ ap (λ (rows : Rows). takes_row rows row) (sym (rows_gathered (folder_at fs) k count ∙ ap (rows_found (folder_at fs)) found))
         ∙ ap (λ t. t && takes_row (rows_of k (held_in fs count)) row) (sym present)
 
     -- the folders and links of the blocks after other rows were put there
-    module _ (v : Rows → Rows) (within : found - 1 < length fs) (fs' : List Folder) where
-      pub held_now : fs' ≡ set fs (found - 1) (with_rows v (folder_at fs (found - 1))) → held_in fs' count ≡ changed k v (held_in fs count)
-      held_now e = ap (λ l. held_in l count) e ∙ held_changed fs count (found - 1) v within k at_place
+    module _ (v : Rows → Rows) (within : at < length fs) (fs' : List Folder) where
+      pub held_now : fs' ≡ set fs at (with_rows v (folder_at fs at)) → held_in fs' count ≡ changed k v (held_in fs count)
+      held_now e = ap (λ l. held_in l count) e ∙ held_changed fs count at v within k found
 
-      pub held_if : (r : Bool) → fs' ≡ cond r (set fs (found - 1) (with_rows v (folder_at fs (found - 1)))) fs → held_in fs' count ≡ cond r (changed k v (held_in fs count)) (held_in fs count)
+      pub held_if : (r : Bool) → fs' ≡ cond r (set fs at (with_rows v (folder_at fs at))) fs → held_in fs' count ≡ cond r (changed k v (held_in fs count)) (held_in fs count)
       held_if true e = held_now e
       held_if false e = ap (λ l. held_in l count) e
 
       module _ (heads links order : List ℕ) (places : ℕ) (sound : Sound heads fs links order count places) (links' : List ℕ) (l : links' ≡ links) where
-        pub sound_now : fs' ≡ set fs (found - 1) (with_rows v (folder_at fs (found - 1))) → Sound heads fs' links' order count places
+        pub sound_now : fs' ≡ set fs at (with_rows v (folder_at fs at)) → Sound heads fs' links' order count places
         sound_now e =
             subst (λ (ls : List ℕ). Sound heads fs' ls order count places) (sym l)
-            (subst (λ (gs : List Folder). Sound heads gs links order count places) (sym e) (sound_changed fs count (found - 1) v within heads links order places sound))
+            (subst (λ (gs : List Folder). Sound heads gs links order count places) (sym e) (sound_changed fs count at v within heads links order places sound))
 
-        pub sound_if : (r : Bool) → fs' ≡ cond r (set fs (found - 1) (with_rows v (folder_at fs (found - 1)))) fs → Sound heads fs' links' order count places
+        pub sound_if : (r : Bool) → fs' ≡ cond r (set fs at (with_rows v (folder_at fs at))) fs → Sound heads fs' links' order count places
         sound_if true e = sound_now e
         sound_if false e =
             subst (λ (ls : List ℕ). Sound heads fs' ls order count places) (sym l)

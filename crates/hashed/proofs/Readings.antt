@@ -1,5 +1,5 @@
 -- What is read of a block at its place, and what is left where it is written.
-use Rattle.std.proofs.Common.{◌≡◌, ℕ, suc, ◌-◌, ◌<◌, Bool, true, false, cond, List, length, get_or, set, sym, ap, ◌∙◌, arith}
+use Rattle.std.proofs.Common.{◌≡◌, ℕ, suc, ◌<◌, Bool, true, false, cond, List, length, get_or, set, sym, ap, ◌∙◌}
 use Rattle.std.proofs.lemmas.List.{get_or-map, map-set, set-get_or}
 use Rattle.blocks.specs.Block.{folder_of, empty_folder, with_rows}
 use Rattle.blocks.specs.declared.block.Block.{Block}
@@ -18,6 +18,12 @@ module _ (blocks : List Block) (i : ℕ) (d : Block) (h : i < length blocks) whe
   pub folder_read : d ≡ get_or blocks i d → folder_at (folders_of blocks) i ≡ folder_of d
   folder_read e = folder_at_lem ∙ ap folder_of (sym e)
 
+  pub link_read : d ≡ get_or blocks i d → get_or (links_of blocks) i 0 ≡ d.link
+  link_read e = link_at ∙ ap (λ b. b.link) (sym e)
+
+  pub pair_read : d ≡ get_or blocks i d → pair_at (folders_of blocks) i ≡ d.pair
+  pair_read e = ap (λ f. f.pair) (folder_read e)
+
   -- in its stead, one with the same link
   pub links_stay : (b : Block) → b.link ≡ (get_or blocks i d).link → links_of (set blocks i b) ≡ links_of blocks
   links_stay b l = map-set (λ b. b.link) blocks i b ∙ ap (set (links_of blocks) i) (l ∙ sym link_at) ∙ set-get_or (links_of blocks) i 0
@@ -30,17 +36,13 @@ module _ (blocks : List Block) (i : ℕ) (d : Block) (h : i < length blocks) whe
   folder_set_if b v true w = folder_set b v w
   folder_set_if b v false w = map-set folder_of blocks i b ∙ ap (set (folders_of blocks) i) (w ∙ sym folder_at_lem) ∙ set-get_or (folders_of blocks) i (empty_folder lowest)
 
-pub pair_at_lem : (blocks : List Block) (i : ℕ) (d : Block) → i < length blocks → pair_at (folders_of blocks) i ≡ (get_or blocks i d).pair
-pair_at_lem blocks i d h = ap (λ f. f.pair) (folder_at_lem blocks i d h)
-
 -- the rows of a pair, by what was found of it
-module _ (blocks : List Block) (count : ℕ) (k : Pair) (found : ℕ) (is : found ≡ seek (pair_at (folders_of blocks)) k count) where
-  pub rows_none : found ≡ 0 → rows_of k (held_in (folders_of blocks) count) ≡ no_rows
-  rows_none e = rows_gathered (folder_at (folders_of blocks)) k count ∙ ap (rows_found (folder_at (folders_of blocks))) (sym is ∙ e)
+module _ (blocks : List Block) (count : ℕ) (k : Pair) where
+  pub rows_none : seek (pair_at (folders_of blocks)) k count ≡ 0 → rows_of k (held_in (folders_of blocks) count) ≡ no_rows
+  rows_none e = rows_gathered (folder_at (folders_of blocks)) k count ∙ ap (rows_found (folder_at (folders_of blocks))) e
 
-  pub rows_read : (found ≡ 0 → ⊥) → (b : Block) → found - 1 < length blocks → b ≡ get_or blocks (found - 1) b → rows_of k (held_in (folders_of blocks) count) ≡ (folder_of b).rows
-  rows_read some b h e =
-      let next : found ≡ suc (found - 1) = omega arith in
+  pub rows_read : (at : ℕ) → seek (pair_at (folders_of blocks)) k count ≡ suc at → (b : Block) → at < length blocks → b ≡ get_or blocks at b → rows_of k (held_in (folders_of blocks) count) ≡ (folder_of b).rows
+  rows_read at found b h e =
       rows_gathered (folder_at (folders_of blocks)) k count
-      ∙ ap (rows_found (folder_at (folders_of blocks))) (sym is ∙ next)
-      ∙ ap (λ f. f.rows) (folder_read blocks (found - 1) b h e)
+      ∙ ap (rows_found (folder_at (folders_of blocks))) found
+      ∙ ap (λ f. f.rows) (folder_read blocks at b h e)

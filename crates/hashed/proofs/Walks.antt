@@ -4,7 +4,8 @@ use Rattle.std.proofs.lemmas.Bool.{eqb-true, eqb-false, cond-true, cond-false, c
 use Rattle.register.specs.declared.pairs.Pair.{Pair}
 use Rattle.register.specs.Folders.{Folder, same}
 use Rattle.register.proofs.PairOrder.{same_is, refuted}
-use Rattle.hashed.specs.Table.{pair_at, home_of, last, seek, Linked}
+use Rattle.hashed.specs.Table.{pair_at, home_of, last, seek}
+use Rattle.hashed.proofs.Sound.{Linked}
 
 module _ (f : ℕ → Pair) (size : ℕ) where
   pub last_le : (h n : ℕ) → last f size h n ≤ n

@@ -1,10 +1,9 @@
 -- The blocks of the register: the chains by which one is found, and their order by pair.
-use Rattle.std.specs.Prelude.{◌≡◌, ℕ, zero, suc, ◌+◌, ◌*◌, ◌/◌, ◌%◌, ◌^◌, ◌<◌, ◌≤◌, min, cond, List, map, length, take, ◌==◌, slice_index, slice_index_or}
+use Rattle.std.specs.Prelude.{ℕ, zero, suc, ◌+◌, ◌*◌, ◌/◌, ◌%◌, ◌^◌, min, cond, List, map, ◌==◌, slice_index_or}
 use Rattle.blocks.specs.Block.{folder_of, empty_folder}
 use Rattle.blocks.specs.declared.block.Block.{Block}
 use Rattle.register.specs.declared.pairs.Pair.{Pair}
 use Rattle.register.specs.Folders.{Folder, same, lowest}
-use Rattle.register.specs.Walks.{pairs_of}
 use Rattle.hashed.specs.Filing.{gathered}
 
 -- the folders in blocks, and the blocks' links
@@ -37,25 +36,6 @@ last f size h (suc n) = cond (home_of (f n) size == h) (suc n) (last f size h n)
 abbrev pub seek : (ℕ → Pair) → Pair → ℕ → ℕ
 seek f p zero = 0
 seek f p (suc n) = cond (same p (f n)) (suc n) (seek f p n)
-
--- each head is the last block of its chain, and each link the one before
-pub record Linked (heads : List ℕ) (fs : List Folder) (links : List ℕ) (count : ℕ) : Type 0 where
-  pub heading : (h : ℕ) → h < length heads → slice_index heads h ≡ last (pair_at fs) (length heads) h count
-  pub linking : (b : ℕ) → b < count → slice_index links b ≡ last (pair_at fs) (length heads) (home_of (pair_at fs b) (length heads)) b
-
--- the order has the blocks by their pairs
-pub record Ordered (fs : List Folder) (order : List ℕ) (count : ℕ) : Type 0 where
-  pub inside : (i : ℕ) → i < count → slice_index order i < count
-  pub keyed : map (pair_at fs) (take count order) ≡ pairs_of (held_in fs count)
-
-pub record Sound (heads : List ℕ) (fs : List Folder) (links order : List ℕ) (count places : ℕ) : Type 0 where
-  pub used : count ≤ places
-  pub narrow : places < 4294967296
-  pub blocked : places ≤ length fs
-  pub listed : places ≤ length order
-  pub headed : 0 < places → 0 < length heads
-  pub linked : Linked heads fs links count
-  pub ordered : Ordered fs order count
 
 -- how many folders there may be over slices of such lengths
 abbrev pub places_of : ℕ → ℕ → ℕ → ℕ → ℕ

@@ -1,9 +1,10 @@
-// Chains of blocks: the head of each leads to its newest block, and each block's link to the one before.
-// A link is one past the place of a block; 0 is none.
-ghost use Rattle.std.specs.Prelude.{◌≡◌, ◌<◌, ◌≤◌, length};
-ghost use Rattle.register.specs.Folders.{same};
-ghost use Rattle.hashed.specs.Table.{folders_of, links_of, pair_at, home_of, seek, Linked};
+// Chains of blocks, by which a pair's block is found.
+ghost use Rattle.std.specs.Prelude.{◌≡◌, suc, ◌<◌, MatchOption};
+ghost use Rattle.register.specs.Folders.{no_rows, rows_of};
+ghost use Rattle.blocks.specs.Block.{folder_of};
+ghost use Rattle.hashed.specs.Table.{folders_of, pair_at, held_in, home_of, seek};
 
+use crate::hashing::Hashed;
 use blocks::block::Block;
 use register::pairs::Pair;
 
@@ -21,38 +22,33 @@ pub(crate) fn home(pair: Pair, size: usize) -> usize
     (mixed / 4294967296) as usize % size
 }
 
-// Whether a block has a pair.
-fn is_of(block: &Block, pair: Pair) -> bool
-    ensures { result ≡ same pair block.now.pair }
-{
-    pair == block.pair
-}
-
-// Whether the block at a place has a pair.
-fn is_at(blocks: &[Block], at: usize, pair: Pair) -> bool
-    requires { at < length blocks.now }
-    ensures { result ≡ same pair (pair_at (folders_of blocks.now) at) }
-{
-    is_of(&blocks[at], pair)
-}
-
-// One past the place of a pair's block, and 0 where there is none: along the chain, which goes down.
-pub(crate) fn find(heads: &[u32], blocks: &[Block], count: usize, pair: Pair) -> usize
-    requires within { count ≤ length blocks.now }
-    requires headed { 0 < count → 0 < length heads.now }
-    requires linked { Linked heads.now (folders_of blocks.now) (links_of blocks.now) count }
-    ensures value { result ≡ seek (pair_at (folders_of blocks.now)) pair count }
-    ensures within { result ≤ count }
-{
-    if heads.len() == 0 {
-        return 0;
-    }
-    let mut at = heads[home(pair, heads.len())] as usize;
-    while at > 0 {
-        if is_at(blocks, at - 1, pair) {
-            return at;
+impl<'a> Hashed<'a> {
+    // The place of a pair's block: along its chain, which goes down.
+    pub(crate) fn find(&self, pair: Pair) -> Option<usize>
+        ensures { MatchOption result (seek (pair_at (folders_of self.now.blocks.now)) pair self.now.count ≡ 0) (λ at. seek (pair_at (folders_of self.now.blocks.now)) pair self.now.count ≡ suc at) }
+    {
+        if self.heads.len() == 0 {
+            return None;
         }
-        at = blocks[at - 1].link as usize;
+        let blocks = &*self.blocks;
+        let mut link = self.heads[home(pair, self.heads.len())];
+        while link > 0 {
+            let at = link as usize - 1;
+            let block = &blocks[at];
+            if pair == block.pair {
+                return Some(at);
+            }
+            link = block.link;
+        }
+        None
     }
-    0
+
+    // The block of a pair, which has its rows.
+    pub(crate) fn block(&self, pair: Pair) -> Option<&Block>
+        ensures { MatchOption result (rows_of pair (held_in (folders_of self.now.blocks.now) self.now.count) ≡ no_rows) (λ b. rows_of pair (held_in (folders_of self.now.blocks.now) self.now.count) ≡ (folder_of b.now).rows) }
+    {
+        let at = self.find(pair)?;
+        let blocks = &*self.blocks;
+        Some(&blocks[at])
+    }
 }

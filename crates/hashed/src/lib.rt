@@ -2,7 +2,5 @@
 #![tactic(auto)]
 
 mod chains;
-mod changes;
 pub mod hashing;
 mod orders;
-mod table;

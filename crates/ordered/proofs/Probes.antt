@@ -1,9 +1,9 @@
 -- What it says of an entry to stand before a key, or not.
-use Rattle.std.proofs.Common.{◌≡◌, ℕ, suc, ◌<◌, ◌≤◌, Bool, true, false, ◌&&◌, ◌||◌, ltb, ◌⊎◌, Some, None, Option, sym, refl, ap, ◌∙◌, subst, inl, inr, ⊎_elim, arith}
-use Rattle.std.proofs.lemmas.Bool.{cases_Bool, cases_lt, both_ways, and_parts, and_from, or_left, or_right, or_parts, or_cases, lt-ltb, ltb-true, eq-eqb, eqb-true}
+use Rattle.std.proofs.Common.{◌≡◌, ℕ, suc, ◌<◌, ◌≤◌, Bool, true, false, ◌&&◌, ltb, ◌⊎◌, Some, None, Option, sym, refl, ap, ◌∙◌, subst, inl, inr, ⊎_elim, arith}
+use Rattle.std.proofs.lemmas.Bool.{cases_Bool, cases_lt, both_ways, and_parts, and_from, or_left, or_right, lt-ltb, ltb-true, eq-eqb, eqb-true}
 use Rattle.register.specs.declared.pairs.Pair.{Pair}
 use Rattle.register.specs.Folders.{below, same, same_kind}
-use Rattle.register.proofs.PairOrder.{else_above, above_not_below, not_below_itself, never_below, below_trans, same_is, is_same}
+use Rattle.register.proofs.PairOrder.{else_above, upto, upto_lower, never_below, below_trans, same_is, is_same}
 use Rattle.rows.specs.Kinds.{rank_of}
 use Rattle.rows.specs.Rows.{kind_of_row}
 use Rattle.rows.specs.declared.kinds.Kind.{Kind}
@@ -146,28 +146,9 @@ module _ (p : Pair) (k : Kind) (e : Entry) where
 pub key_front : (key : Key) (e x : Entry) → lower (key_of e) (key_of x) ≡ true → Before key x → Before key e
 key_front key e x l t = lower_onward (key_of e) (key_of x) key l t
 
-abbrev pub upto : Pair → Entry → Bool
-upto p e = below e.pair p || same e.pair p
-
 module _ (p : Pair) (e x : Entry) (l : lower (key_of e) (key_of x) ≡ true) where
   pub pair_front : below x.pair p ≡ true → below e.pair p ≡ true
   pair_front t = ⊎_elim (λ b. below_trans e.pair x.pair p b t) (λ r. subst (λ (q : Pair). below q p ≡ true) (sym r.0) t) (lower_read (key_of e) (key_of x) l)
 
-  pub upto_front : upto p x ≡ true → upto p e ≡ true
-  upto_front t =
-      ⊎_elim (λ b. or_left (below e.pair p) (same e.pair p) (pair_front b))
-      (λ s.
-      ⊎_elim (λ b. or_left (below e.pair p) (same e.pair p) (subst (λ (q : Pair). below e.pair q ≡ true) (same_is x.pair p s) b))
-      (λ r. or_right (below e.pair p) (same e.pair p) (is_same e.pair p (r.0 ∙ same_is x.pair p s)))
-      (lower_read (key_of e) (key_of x) l))
-      (or_cases (below x.pair p) (same x.pair p) t)
-
-module _ (p : Pair) (e : Entry) where
-  pub upto_not_above : upto p e ≡ true → below p e.pair ≡ false
-  upto_not_above t =
-      ⊎_elim (λ b. above_not_below e.pair p b)
-      (λ s. ap (below p) (same_is e.pair p s) ∙ not_below_itself p)
-      (or_cases (below e.pair p) (same e.pair p) t)
-
-  pub past_above : upto p e ≡ false → below p e.pair ≡ true
-  past_above n = let t = or_parts (below e.pair p) (same e.pair p) n in else_above e.pair p t.1 t.0
+  pub upto_front : upto p x.pair ≡ true → upto p e.pair ≡ true
+  upto_front t = ⊎_elim (λ b. upto_lower p e.pair x.pair b t) (λ r. subst (λ (q : Pair). upto p q ≡ true) (sym r.0) t) (lower_read (key_of e) (key_of x) l)
