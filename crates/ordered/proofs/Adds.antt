@@ -245,36 +245,49 @@ module _ (pair : Pair) (r : Row) (xs : List Entry) (kind : Kind) (is-kind : kind
   unheld : holds pair (folders_of xs) ≡ false → addable pair r (folders_of xs) ≡ false
   unheld n = and_left (holds pair (folders_of xs)) (ltb (length rows) (maximum_of (kind_of_row r)) && starts_after rows r) n
 
-  pub refuse_none : from + count ≡ 0 → addable pair r (folders_of xs) ≡ false
-  refuse_none e = unheld (unheld_at_0 pair r xs from count part h e)
-
   pub refuse_full : (most : ℕ) → most ≡ maximum_of kind → most ≤ count → addable pair r (folders_of xs) ≡ false
   refuse_full most e l =
       let m : most ≡ maximum_of (kind_of_row r) = e ∙ ap maximum_of is-kind in
       and_right (holds pair (folders_of xs)) (ltb (length rows) (maximum_of (kind_of_row r)) && starts_after rows r)
       (and_left (ltb (length rows) (maximum_of (kind_of_row r))) (starts_after rows r) (le-ltb (length rows) (maximum_of (kind_of_row r)) (omega (arith, many))))
 
-  module _ (last : Entry) (is : last ≡ get_or xs (from + count - 1) last) where
-    pub refuse_other : same pair last.pair ≡ false → addable pair r (folders_of xs) ≡ false
-    refuse_other n = unheld (unheld_other pair r xs from count part h last is n)
+  module _ (end : ℕ) (whole : from + count ≡ end) where
+    up_to_end : length (take end xs) ≡ end
+    up_to_end = length-take-le end xs (omega (arith, part.within))
 
-    module _ (some : from + count ≡ 0 → ⊥) (of : same pair last.pair ≡ true) where
-      starts : starts_after rows r ≡ lower (key_of last) (key_of (entry pair (Some r)))
-      starts = starts_is pair r xs from count part h last is (omega arith) of
+    pub refuse_none : length (take end xs) ≤ 0 → addable pair r (folders_of xs) ≡ false
+    refuse_none l = let none : from + count ≡ 0 = omega (arith, up_to_end) in unheld (unheld_at_0 pair r xs from count part h none)
 
-      pub refuse_early : lower (key_of last) (key_of (entry pair (Some r))) ≡ false → addable pair r (folders_of xs) ≡ false
-      refuse_early n =
-          and_right (holds pair (folders_of xs)) (ltb (length rows) (maximum_of (kind_of_row r)) && starts_after rows r)
-          (and_right (ltb (length rows) (maximum_of (kind_of_row r))) (starts_after rows r) (starts ∙ n))
+    -- the last entry before the place
+    module _ (last : Entry) (some : 0 < length (take end xs)) (last-is : last ≡ get_or (take end xs) (length (take end xs) - 1) last) where
+      before_end : 0 < from + count
+      before_end = omega (arith, up_to_end)
 
-      pub accept : (most : ℕ) → most ≡ maximum_of kind → count < most → lower (key_of last) (key_of (entry pair (Some r))) ≡ true → (addable pair r (folders_of xs) ≡ true) × Put (entry pair (Some r)) xs (from + count) (added_folders pair r (folders_of xs))
-      accept most e l t =
-          let m : most ≡ maximum_of (kind_of_row r) = e ∙ ap maximum_of is-kind in
-          let held = held_by pair r xs from count part h last is (omega arith) of in (
-            and_from (holds pair (folders_of xs)) (ltb (length rows) (maximum_of (kind_of_row r)) && starts_after rows r) held
-                (and_from (ltb (length rows) (maximum_of (kind_of_row r))) (starts_after rows r) (lt-ltb (length rows) (maximum_of (kind_of_row r)) (omega (arith, many))) (starts ∙ t)),
-            put_row pair r xs from count part h held last is (omega arith) of t,
-          )
+      is : last ≡ get_or xs (from + count - 1) last
+      is =
+          let i : length (take end xs) - 1 ≡ from + count - 1 = omega (arith, up_to_end) in
+          last-is ∙ ap (λ n. get_or (take end xs) n last) i ∙ get_or-take end xs (from + count - 1) last (omega (arith, before_end))
+
+      pub refuse_other : same pair last.pair ≡ false → addable pair r (folders_of xs) ≡ false
+      refuse_other n = unheld (unheld_other pair r xs from count part h last is n)
+
+      module _ (of : same pair last.pair ≡ true) where
+        starts : starts_after rows r ≡ lower (key_of last) (key_of (entry pair (Some r)))
+        starts = starts_is pair r xs from count part h last is before_end of
+
+        pub refuse_early : lower (key_of last) (key_of (entry pair (Some r))) ≡ false → addable pair r (folders_of xs) ≡ false
+        refuse_early n =
+            and_right (holds pair (folders_of xs)) (ltb (length rows) (maximum_of (kind_of_row r)) && starts_after rows r)
+            (and_right (ltb (length rows) (maximum_of (kind_of_row r))) (starts_after rows r) (starts ∙ n))
+
+        pub accept : (most : ℕ) → most ≡ maximum_of kind → count < most → lower (key_of last) (key_of (entry pair (Some r))) ≡ true → (addable pair r (folders_of xs) ≡ true) × Put (entry pair (Some r)) xs end (added_folders pair r (folders_of xs))
+        accept most e l t =
+            let m : most ≡ maximum_of (kind_of_row r) = e ∙ ap maximum_of is-kind in
+            let held = held_by pair r xs from count part h last is before_end of in (
+              and_from (holds pair (folders_of xs)) (ltb (length rows) (maximum_of (kind_of_row r)) && starts_after rows r) held
+                  (and_from (ltb (length rows) (maximum_of (kind_of_row r))) (starts_after rows r) (lt-ltb (length rows) (maximum_of (kind_of_row r)) (omega (arith, many))) (starts ∙ t)),
+              subst (λ (n : ℕ). Put (entry pair (Some r)) xs n (added_folders pair r (folders_of xs))) whole (put_row pair r xs from count part h held last is before_end of t),
+            )
 
 -- few rows stay few where one is added to fewer than the most
 pub few_added : (p : Pair) (r : Row) (xs ys : List Entry) → addable p r (folders_of xs) ≡ true → folders_of ys ≡ added_folders p r (folders_of xs) → Few xs → Few ys

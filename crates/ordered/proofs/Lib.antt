@@ -1,12 +1,12 @@
 pub mod Adds
 pub mod Changes
 pub mod Cuts
-pub mod Halves
 pub mod Inserts
 pub mod Makes
 pub mod Meanings
 pub mod Nexts
 pub mod Parts
+pub mod Points
 pub mod Probes
 pub mod Shifts
 pub mod Sounds

@@ -3,22 +3,21 @@ use Rattle.std.proofs.Common.{◌≡◌, ℕ, zero, suc, ◌+◌, ◌<◌, ◌�
 use Rattle.std.specs.List.{insert, AllByRecursion}
 use Rattle.std.proofs.ByRecursion.{All-weaker, All-append}
 use Rattle.std.proofs.lemmas.List.{take-append-drop, drop_all, drop_more}
-use Rattle.std.proofs.lemmas.Bool.{both_ways, or_left, or_right}
+use Rattle.std.proofs.lemmas.Bool.{or_left, or_right}
 use Rattle.register.specs.declared.pairs.Pair.{Pair}
 use Rattle.register.specs.Folders.{below, same, rows_of, holds, made}
 use Rattle.register.specs.Walks.{pairs_of}
-use Rattle.register.proofs.PairOrder.{below_trans, below_not_same, is_same, above_not_same}
+use Rattle.register.proofs.PairOrder.{below_trans, below_not_same, else_above, same_is, is_same, above_not_same}
 use Rattle.rows.specs.Kinds.{maximum_of}
 use Rattle.rows.specs.declared.kinds.Kind.{Kind}
 use Rattle.rows.specs.declared.row.Row.{Row}
 use Rattle.ordered.specs.declared.entries.Entry.{Entry}
-use Rattle.ordered.specs.Keys.{key_of, lower, key_at, Before, NotBefore}
-use Rattle.ordered.specs.Entries.{folders_of, in_order, Over, Ascends, Put, Few}
+use Rattle.ordered.specs.Keys.{key_of, lower}
+use Rattle.ordered.specs.Entries.{folders_of, in_order, Put, Few}
 use Rattle.ordered.specs.Order.{lower_read, entry}
-use Rattle.ordered.proofs.Halves.{ascends, ascends_drop}
+use Rattle.ordered.proofs.Points.{Over, Ascends, ascends, ascends_drop}
 use Rattle.ordered.proofs.Meanings.{rows_in, has_pair, rows_are, held_are}
 use Rattle.ordered.proofs.Parts.{rows_in_append}
-use Rattle.ordered.proofs.Probes.{before_pair, from_pair}
 use Rattle.ordered.proofs.Changes.{pinned, pairs_append, rows_made, pairs_made}
 use Rattle.ordered.proofs.Inserts.{insert_folder}
 
@@ -79,29 +78,24 @@ module _ (pair : Pair) (xs : List Entry) (at : ℕ) (h : in_order xs ≡ true) (
 pub few_made : (p : Pair) (xs after : List Entry) → holds p (folders_of xs) ≡ false → folders_of after ≡ made p (folders_of xs) → Few xs → Few after
 few_made p xs after n e few q k = subst (λ (rs : List Row). length rs ≤ maximum_of k) (sym (ap (λ fs. rows_of q fs k) e ∙ rows_made q p k (folders_of xs) n)) (few q k)
 
--- what a search for the folder's key tells
+-- what a search for the folder's place tells
 above_rest : (p : Pair) (y : Entry) (ys : List Entry) → below p y.pair ≡ true → Over y ys → AllByRecursion (λ e. below p e.pair ≡ true) ys
 above_rest p y ys b a =
     All-weaker (λ e. lower (key_of y) (key_of e) ≡ true) (λ e. below p e.pair ≡ true)
     (λ e l. ⊎_elim (λ c. below_trans p y.pair e.pair b c) (λ t. subst (λ (q : Pair). below p q ≡ true) t.0 b) (lower_read (key_of y) (key_of e) l))
     ys a
 
-module _ (pair : Pair) (xs : List Entry) (at : ℕ) (h : in_order xs ≡ true) (before : AllByRecursion (Before (key_at pair 0 0)) (take at xs)) (behind : AllByRecursion (NotBefore (key_at pair 0 0)) (drop at xs)) where
-  pub lower_pairs : AllByRecursion (λ e. below e.pair pair ≡ true) (take at xs)
-  lower_pairs = All-weaker (Before (key_at pair 0 0)) (λ e. below e.pair pair ≡ true) (λ e u. before_pair pair e u) (take at xs) before
-
+module _ (pair : Pair) (xs : List Entry) (at : ℕ) (h : in_order xs ≡ true) where
   pub no_pairs : length xs ≤ at → AllByRecursion (λ e. below pair e.pair ≡ true) (drop at xs)
   no_pairs l = subst (AllByRecursion (λ e. below pair e.pair ≡ true)) (sym (drop_all at xs l)) tt
 
   module _ (l : at < length xs) (e : Entry) (is : e ≡ get_or xs at e) where
-    split : drop at xs ≡ e ∷ drop (at + 1) xs
-    split = drop_more xs at e l ∙ ap (λ x. x ∷ drop (at + 1) xs) (sym is)
-
-    pub higher_pairs : same pair e.pair ≡ false → AllByRecursion (λ e. below pair e.pair ≡ true) (drop at xs)
-    higher_pairs n =
-        let first : below pair e.pair ≡ true = ⊎_elim (λ q. absurd (both_ways (same pair e.pair) n (is_same pair e.pair (sym q)))) (λ b. b) (from_pair pair e (subst (AllByRecursion (NotBefore (key_at pair 0 0))) split behind).0) in
+    pub higher_pairs : AllByRecursion (λ e. below e.pair pair ≡ false) (drop at xs) → same e.pair pair ≡ false → AllByRecursion (λ e. below pair e.pair ≡ true) (drop at xs)
+    higher_pairs behind n =
+        let split : drop at xs ≡ e ∷ drop (at + 1) xs = drop_more xs at e l ∙ ap (λ x. x ∷ drop (at + 1) xs) (sym is) in
+        let first : below pair e.pair ≡ true = else_above e.pair pair n (subst (AllByRecursion (λ e. below e.pair pair ≡ false)) split behind).0 in
         let over : Over e (drop (at + 1) xs) = (subst Ascends split (ascends_drop at xs (ascends xs h))).0 in
         subst (AllByRecursion (λ x. below pair x.pair ≡ true)) (sym split) (first, above_rest pair e (drop (at + 1) xs) first over)
 
-    pub held_there : same pair e.pair ≡ true → holds pair (folders_of xs) ≡ true
-    held_there t = held_are pair xs h ∙ has_pair_at pair xs at e l (subst (λ (x : Entry). same pair x.pair ≡ true) is t)
+    pub held_there : same e.pair pair ≡ true → holds pair (folders_of xs) ≡ true
+    held_there t = held_are pair xs h ∙ has_pair_at pair xs at e l (subst (λ (x : Entry). same pair x.pair ≡ true) is (is_same pair e.pair (sym (same_is e.pair pair t))))

@@ -6,13 +6,11 @@ use Rattle.std.proofs.lemmas.List.{take-append-drop, drop_all, drop_more}
 use Rattle.std.proofs.lemmas.Bool.{both_ways, and_parts, or_cases}
 use Rattle.register.specs.declared.pairs.Pair.{Pair}
 use Rattle.register.specs.Folders.{below, same, next_pair}
-use Rattle.register.proofs.PairOrder.{same_is}
+use Rattle.register.proofs.PairOrder.{same_is, upto, upto_not_above, past_above}
 use Rattle.rows.specs.declared.row.Row.{Row}
 use Rattle.ordered.specs.declared.entries.Entry.{Entry}
-use Rattle.ordered.specs.Keys.{key_at, Before, NotBefore}
 use Rattle.ordered.specs.Entries.{folders_of, is_folder, in_order_from, in_order}
 use Rattle.ordered.specs.Order.{entry, behind_rest, behind_pair}
-use Rattle.ordered.proofs.Probes.{past_pair, upto_pair}
 
 skip : (p : Pair) (pair : Pair) (o : Option Row) (xs : List Entry) → below p pair ≡ false → next_pair p (folders_of (entry pair o ∷ xs)) ≡ next_pair p (folders_of xs)
 skip p pair None xs h = ap (λ b. cond b (Some pair) (next_pair p (folders_of xs))) h
@@ -37,12 +35,12 @@ here : (p : Pair) (pair : Pair) (o : Option Row) (xs : List Entry) → is_folder
 here p pair None xs f b = sym (ap (λ t. cond t (Some pair) (next_pair p (folders_of xs))) b)
 here p pair (Some r) xs f b = absurd (both_ways false refl f)
 
-module _ (p : Pair) (xs : List Entry) (at : ℕ) (h : in_order xs ≡ true) (before : AllByRecursion (Before (key_at p 11 0)) (take at xs)) (behind : AllByRecursion (NotBefore (key_at p 11 0)) (drop at xs)) where
-  upto : AllByRecursion (λ e. below p e.pair ≡ false) (take at xs)
-  upto = All-weaker (Before (key_at p 11 0)) (λ e. below p e.pair ≡ false) (λ e u. upto_pair p e u) (take at xs) before
+module _ (p : Pair) (xs : List Entry) (at : ℕ) (h : in_order xs ≡ true) (before : AllByRecursion (λ e. upto p e.pair ≡ true) (take at xs)) (behind : AllByRecursion (λ e. upto p e.pair ≡ false) (drop at xs)) where
+  not_above : AllByRecursion (λ e. below p e.pair ≡ false) (take at xs)
+  not_above = All-weaker (λ e. upto p e.pair ≡ true) (λ e. below p e.pair ≡ false) (λ e t. upto_not_above p e.pair t) (take at xs) before
 
   past : next_pair p (folders_of xs) ≡ next_pair p (folders_of (drop at xs))
-  past = ap (λ l. next_pair p (folders_of l)) (sym (take-append-drop at xs)) ∙ skips p (take at xs) (drop at xs) upto
+  past = ap (λ l. next_pair p (folders_of l)) (sym (take-append-drop at xs)) ∙ skips p (take at xs) (drop at xs) not_above
 
   pub next_none : length xs ≤ at → None ≡ next_pair p (folders_of xs)
   next_none l = sym (past ∙ ap (λ r. next_pair p (folders_of r)) (drop_all at xs l))
@@ -50,7 +48,7 @@ module _ (p : Pair) (xs : List Entry) (at : ℕ) (h : in_order xs ≡ true) (bef
   pub next_some : at < length xs → (e : Entry) → e ≡ get_or xs at e → Some e.pair ≡ next_pair p (folders_of xs)
   next_some l e is =
       let split : drop at xs ≡ e ∷ drop (at + 1) xs = drop_more xs at e l ∙ ap (λ x. x ∷ drop (at + 1) xs) (sym is) in
-      let above : below p e.pair ≡ true = past_pair p e (subst (AllByRecursion (NotBefore (key_at p 11 0))) split behind).0 in
-      let own : is_folder e.row ≡ true = folder_first p (take at xs) e (drop (at + 1) xs) upto above (ap in_order (ap (λ r. take at xs ++ r) (sym split) ∙ take-append-drop at xs) ∙ h) in
+      let above : below p e.pair ≡ true = past_above p e.pair (subst (AllByRecursion (λ x. upto p x.pair ≡ false)) split behind).0 in
+      let own : is_folder e.row ≡ true = folder_first p (take at xs) e (drop (at + 1) xs) not_above above (ap in_order (ap (λ r. take at xs ++ r) (sym split) ∙ take-append-drop at xs) ∙ h) in
       here p e.pair e.row (drop (at + 1) xs) own above
       ∙ sym (past ∙ ap (λ r. next_pair p (folders_of r)) split)

@@ -3,7 +3,7 @@ use Rattle.std.proofs.Common.{◌≡◌, ℕ, suc, ◌<◌, ◌≤◌, Bool, tru
 use Rattle.std.proofs.lemmas.Bool.{cases_Bool, cases_lt, both_ways, and_parts, and_from, or_left, or_right, lt-ltb, ltb-true, eq-eqb, eqb-true}
 use Rattle.register.specs.declared.pairs.Pair.{Pair}
 use Rattle.register.specs.Folders.{below, same, same_kind}
-use Rattle.register.proofs.PairOrder.{else_above, never_below, below_trans, same_is, is_same}
+use Rattle.register.proofs.PairOrder.{else_above, upto, upto_lower, never_below, below_trans, same_is, is_same}
 use Rattle.rows.specs.Kinds.{rank_of}
 use Rattle.rows.specs.Rows.{kind_of_row}
 use Rattle.rows.specs.declared.kinds.Kind.{Kind}
@@ -142,22 +142,13 @@ module _ (p : Pair) (k : Kind) (e : Entry) where
       let s = in_part_lem t in
       ⊎_elim (λ b. absurd (no_below b s.0)) (λ r. ⊎_elim (λ m. absurd (omega (arith, s.1))) (λ m. m.1) r.1) (stands_before p (suc (rank_of k)) day e h)
 
--- the entries of a pair: from its folder's key on, before the key past its last kind
-module _ (p : Pair) (e : Entry) where
-  pub before_pair : Before (key_at p 0 0) e → below e.pair p ≡ true
-  before_pair h = ⊎_elim (λ b. b) (λ r. absurd (⊎_elim (λ m. omega arith) (λ m. omega (arith, m.1)) r.1)) (stands_before p 0 0 e h)
+-- tests that no entry passes behind one that fails them
+pub key_front : (key : Key) (e x : Entry) → lower (key_of e) (key_of x) ≡ true → Before key x → Before key e
+key_front key e x l t = lower_onward (key_of e) (key_of x) key l t
 
-  pub from_pair : NotBefore (key_at p 0 0) e → (e.pair ≡ p) ⊎ (below p e.pair ≡ true)
-  from_pair h = ⊎_elim inr (λ r. inl r.0) (stands_behind p 0 0 e h)
+module _ (p : Pair) (e x : Entry) (l : lower (key_of e) (key_of x) ≡ true) where
+  pub pair_front : below x.pair p ≡ true → below e.pair p ≡ true
+  pair_front t = ⊎_elim (λ b. below_trans e.pair x.pair p b t) (λ r. subst (λ (q : Pair). below q p ≡ true) (sym r.0) t) (lower_read (key_of e) (key_of x) l)
 
-  pub past_pair : NotBefore (key_at p 11 0) e → below p e.pair ≡ true
-  past_pair h = ⊎_elim (λ b. b) (λ r. absurd (omega (arith, r.1, level_most e.row))) (stands_behind p 11 0 e h)
-
-  pub upto_pair : Before (key_at p 11 0) e → below p e.pair ≡ false
-  upto_pair h =
-      ⊎_elim
-      (λ b.
-      absurd
-      (⊎_elim (λ c. never_below p (below_trans p e.pair p b c)) (λ r. never_below p (subst (λ (q : Pair). below p q ≡ true) r.0 b))
-      (stands_before p 11 0 e h)))
-      (λ f. f) (cases_Bool (below p e.pair))
+  pub upto_front : upto p x.pair ≡ true → upto p e.pair ≡ true
+  upto_front t = ⊎_elim (λ b. upto_lower p e.pair x.pair b t) (λ r. subst (λ (q : Pair). upto p q ≡ true) (sym r.0) t) (lower_read (key_of e) (key_of x) l)

@@ -1,5 +1,5 @@
 -- What the used entries mean: the folders that they are.
-use Rattle.std.specs.Prelude.{◌≡◌, ℕ, suc, ◌+◌, ◌*◌, ◌≤◌, Bool, true, false, cond, ◌&&◌, ◌||◌, List, [], ◌∷◌, length, take, drop, Some, None, sum_by, Option}
+use Rattle.std.specs.Prelude.{◌≡◌, ℕ, suc, ◌+◌, ◌≤◌, Bool, true, false, cond, ◌&&◌, ◌||◌, List, [], ◌∷◌, length, take, drop, Some, None, sum_by, Option}
 use Rattle.std.specs.List.{insert, AllByRecursion}
 use Rattle.register.specs.declared.pairs.Pair.{Pair}
 use Rattle.register.specs.Folders.{Rows, Folder, same, same_kind, no_rows, rows_of}
@@ -59,14 +59,6 @@ Few es = (pair : Pair) (kind : Kind) → length (rows_of pair (folders_of es) ki
 abbrev pub per_folder : ℕ
 per_folder = suc (sum_by maximum_of kinds)
 
--- of any two entries the later is above
-abbrev pub Over : Entry → List Entry → Type 0
-Over e xs = AllByRecursion (λ x. lower (key_of e) (key_of x) ≡ true) xs
-
-abbrev pub Ascends : List Entry → Type 0
-Ascends [] = Unit {0}
-Ascends (x ∷ xs) = Over x xs × Ascends xs
-
 -- where the rows of a pair and a kind stand that start on or after a day: so many, from a place on
 pub record Part (pair : Pair) (kind : Kind) (day : ℕ) (es : List Entry) (from count : ℕ) : Type 0 where
   pub within : from + count ≤ length es
@@ -84,17 +76,3 @@ pub record Put (x : Entry) (es : List Entry) (at : ℕ) (after : List Folder) : 
 -- the folders in lent memory: those of the entries used, which stand first
 abbrev pub folders_in : List Entry → ℕ → List Folder
 folders_in memory used = folders_of (take used memory)
-
--- the used entries are in order, and every folder can be full
-pub record Sound (memory : List Entry) (used : ℕ) : Type 0 where
-  pub within : used ≤ length memory
-  pub order : in_order (take used memory) ≡ true
-  pub few : Few (take used memory)
-  pub enough : per_folder * length (folders_in memory used) ≤ length memory
-
--- and so many folders are held of so many that there may be
-pub record Counted (memory : List Entry) (used held places : ℕ) : Type 0 where
-  pub sound : Sound memory used
-  pub many : held ≡ length (folders_in memory used)
-  pub room : held ≤ places
-  pub enough : per_folder * places ≤ length memory

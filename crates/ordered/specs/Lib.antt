@@ -1,5 +1,4 @@
 pub mod Entries
 pub mod Form
 pub mod Keys
-pub mod Memory
 pub mod Order

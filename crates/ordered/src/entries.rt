@@ -2,7 +2,7 @@
 ghost use Rattle.std.specs.Prelude.{◌≡◌, suc, Some, None};
 ghost use Rattle.rows.specs.Kinds.{rank_of};
 ghost use Rattle.register.specs.Folders.{lowest};
-ghost use Rattle.ordered.specs.Keys.{key_of, lower};
+ghost use Rattle.ordered.specs.Keys.{key_of};
 
 use register::pairs::Pair;
 use rows::dated::Dated;
@@ -18,7 +18,7 @@ pub struct Entry {
 }
 
 // Where an entry stands among the others.
-#[derive(Clone, Copy, Debug, PartialEq, Eq, PartialOrd, Ord)]
+#[derive(Clone, Copy, PartialEq, Eq, PartialOrd, Ord)]
 pub(crate) struct Key {
     pub(crate) pair: Pair,
     // 0 for the folder itself, then the kinds in their order
@@ -72,11 +72,5 @@ impl Key {
         ensures { result ≡ suc (rank_of kind) }
     {
         kind.rank() + 1
-    }
-
-    pub(crate) fn before(self, other: Key) -> bool
-        ensures { result ≡ lower self other }
-    {
-        self < other
     }
 }

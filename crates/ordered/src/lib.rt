@@ -2,10 +2,8 @@
 #![tactic(auto)]
 
 pub mod capacity;
-mod changing;
 pub mod entries;
 mod finding;
-mod memory;
 mod placing;
 pub mod registers;
 mod shifting;

@@ -3,6 +3,7 @@ ghost use Rattle.std.specs.Prelude.{◌≡◌, ◌+◌, ◌-◌, ◌<◌, ◌≤
 ghost use Rattle.std.specs.List.{insert};
 
 use crate::entries::Entry;
+use std::ops::Range;
 
 // Puts an entry at a place, and the used entries from there on one place up.
 pub(crate) fn put(entries: &mut [Entry], used: usize, at: usize, entry: Entry)
@@ -14,14 +15,15 @@ pub(crate) fn put(entries: &mut [Entry], used: usize, at: usize, entry: Entry)
     entries[at] = entry;
 }
 
-// Takes out so many entries from a place on; the used entries behind them come down. Where none is
-// taken out, nothing is moved.
-pub(crate) fn take_out(entries: &mut [Entry], used: usize, from: usize, count: usize)
+// Takes out the entries at some places; the used entries behind them come down. Where none is taken
+// out, nothing is moved.
+pub(crate) fn take_out(entries: &mut [Entry], used: usize, gone: Range<usize>)
     requires within { used ≤ length entries.old }
-    requires place { from + count ≤ used }
-    ensures { take (used - count) entries.new ≡ take from (take used entries.old) ++ drop count (drop from (take used entries.old)) }
+    requires ends { gone.start ≤ gone.end }
+    requires place { gone.end ≤ used }
+    ensures { take (used - (gone.end - gone.start)) entries.new ≡ take gone.start (take used entries.old) ++ drop gone.end (take used entries.old) }
 {
-    if count > 0 {
-        entries.copy_within(from + count..used, from);
+    if gone.start < gone.end {
+        entries.copy_within(gone.end..used, gone.start);
     }
 }

@@ -1,5 +1,5 @@
 pub mod Keeping
 pub mod Nexts
 pub mod PairOrder
-pub mod Puts
 pub mod Rising
+pub mod Shifts

@@ -1,6 +1,6 @@
 -- The order of pairs is strict and total.
-use Rattle.std.proofs.Common.{◌≡◌, Bool, true, false, Decides, sym, refl, ◌∙◌, inl, inr, ⊎_elim, arith}
-use Rattle.std.proofs.lemmas.Bool.{cases_order}
+use Rattle.std.proofs.Common.{◌≡◌, Bool, true, false, ◌||◌, Decides, sym, refl, ap, ◌∙◌, subst, inl, inr, ⊎_elim, arith}
+use Rattle.std.proofs.lemmas.Bool.{cases_order, or_cases, or_parts, or_left}
 use Rattle.std.proofs.lemmas.Bool.Decides.{Decides-and, Decides-or, Decides-eqb, Decides-ltb, not_from_Decides}
 use Rattle.register.specs.declared.pairs.Pair.{Pair}
 use Rattle.register.specs.Folders.{Below, below, same}
@@ -60,3 +60,19 @@ else_above p q e f =
     (λ a. ⊎_elim (λ b. absurd (not_from_Decides _ (same_decides p q) e (a, b))) (⊎_elim (λ b. absurd (not_from_Decides _ (below_decides p q) f (inr (a, b)))) (λ b. (below_decides q p).1 (inr (sym a, b)))) (cases_order p.view q.view))
     (⊎_elim (λ a. absurd (not_from_Decides _ (below_decides p q) f (inl a))) (λ a. (below_decides q p).1 (inl a)))
     (cases_order p.system q.system)
+
+-- a pair is not above another: what `<=` tests
+abbrev pub upto : Pair → Pair → Bool
+upto k p = below p k || same p k
+
+pub upto_not_above : (k p : Pair) → upto k p ≡ true → below k p ≡ false
+upto_not_above k p t =
+    ⊎_elim (λ b. above_not_below p k b) (λ s. ap (below k) (same_is p k s) ∙ not_below_itself k) (or_cases (below p k) (same p k) t)
+
+pub past_above : (k p : Pair) → upto k p ≡ false → below k p ≡ true
+past_above k p n = let t = or_parts (below p k) (same p k) n in else_above p k t.1 t.0
+
+pub upto_lower : (k p q : Pair) → below p q ≡ true → upto k q ≡ true → upto k p ≡ true
+upto_lower k p q l t =
+    or_left (below p k) (same p k)
+    (⊎_elim (below_trans p q k l) (λ s. subst (λ (r : Pair). below p r ≡ true) (same_is q k s) l) (or_cases (below q k) (same q k) t))

@@ -1,5 +1,5 @@
 use Rattle.std.proofs.Common.{◌+◌, take, set, ap, ◌∙◌}
-use Rattle.register.proofs.Puts.{put_front}
+use Rattle.register.proofs.Shifts.{put_front}
 use Rattle.hashed.proofs.orders.insert.Goals as goal
 
 pub returns : goal.returns

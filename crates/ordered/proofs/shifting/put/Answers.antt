@@ -1,5 +1,5 @@
 use Rattle.std.proofs.Common.{◌+◌, take, set, ap, ◌∙◌}
-use Rattle.ordered.proofs.Shifts.{put_front}
+use Rattle.register.proofs.Shifts.{put_front}
 use Rattle.ordered.proofs.shifting.put.Goals as goal
 
 pub returns : goal.returns

@@ -1,4 +1,4 @@
--- What a copy one place up leaves of a list's front, once the place that it frees is written.
+-- What a copy one place up makes room for.
 use Rattle.std.proofs.Common.{◌≡◌, ℕ, ◌+◌, ◌-◌, ◌<◌, ◌≤◌, List, [], ◌∷◌, ◌++◌, length, get_or, take, drop, set, sym, ap, ◌∙◌, append_assoc, arith, length-drop}
 use lib.Seq.{paste, take-set-lt}
 use Rattle.std.specs.List.{insert}

@@ -1,8 +1,0 @@
-use Rattle.ordered.proofs.Sounds.{cut_after, cut_sound}
-use Rattle.ordered.proofs.changing.cut.Goals as goal
-
-pub returns : goal.returns
-returns c = record {
-  sound = cut_sound c.args.entries.now c.args.used.now c.requires c.take_out.new.entries c.take_out.auto.entries c.args.pair c.args.kind c.args.day c.part-from.result.0 c.part-from.result.1 c.part-from.ensures c.take_out.ensures;
-  after = cut_after c.args.entries.now c.args.used.now c.requires c.take_out.new.entries c.take_out.auto.entries c.args.pair c.args.kind c.args.day c.part-from.result.0 c.part-from.result.1 c.part-from.ensures c.take_out.ensures;
-}
