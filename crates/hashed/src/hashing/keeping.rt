@@ -1,7 +1,8 @@
 // Folders in lent memory: found, read, made, cut, added to and forgotten.
-ghost use Rattle.std.specs.Prelude.{◌≡◌, ◌<◌, ◌≤◌, true, false, [], map, length, take, drop, IfSome};
+ghost use Rattle.std.specs.Prelude.{◌≡◌, ◌<◌, ◌≤◌, true, false, [], map, length, take, drop, IfSome, MatchOption};
 ghost use Rattle.std.specs.List.{AllByRecursion};
-ghost use Rattle.register.specs.Folders.{below};
+ghost use Rattle.blocks.specs.Block.{folder_of};
+ghost use Rattle.register.specs.Folders.{below, no_rows, rows_of};
 ghost use Rattle.hashed.specs.Form.{in_form_lem};
 ghost use Rattle.hashed.specs.Memory.{held_folders};
 ghost use Rattle.hashed.specs.Table.{folders_of, pair_at, seek, places_of};
@@ -58,6 +59,15 @@ impl<'a> Hashed<'a> {
         chains::find(self.heads, self.blocks, self.count, pair)
     }
 
+    // The block of a pair, which has its rows.
+    fn block(&self, pair: Pair) -> Option<&Block>
+        ensures { MatchOption result (rows_of pair (held_folders self.now) ≡ no_rows) (λ b. rows_of pair (held_folders self.now) ≡ (folder_of b.now).rows) }
+    {
+        let at = self.find(pair)?;
+        let blocks = &*self.blocks;
+        Some(&blocks[at])
+    }
+
     // The first place in the order whose pair comes after this one.
     fn locate(&self, pair: Pair) -> usize
         ensures within { result ≤ self.now.count }
@@ -88,19 +98,11 @@ impl<'a> Register for Hashed<'a> {
     }
 
     fn count(&self, pair: Pair, kind: Kind) -> usize {
-        let blocks = &*self.blocks;
-        match self.find(pair) {
-            Some(place) => blocks[place].count(kind),
-            None => 0,
-        }
+        self.block(pair).map_or(0, |block| block.count(kind))
     }
 
     fn read(&self, pair: Pair, kind: Kind, place: usize, row: &mut Option<Row>) {
-        let blocks = &*self.blocks;
-        *row = match self.find(pair) {
-            Some(at) => blocks[at].read(kind, place),
-            None => None,
-        };
+        *row = self.block(pair).and_then(|block| block.read(kind, place));
     }
 
     fn make(&mut self, system: MeteringSystem, view: u16) -> bool {
