@@ -20,19 +20,12 @@ pub(crate) fn home(pair: Pair, size: usize) -> usize
     (mixed / 4294967296) as usize % size
 }
 
-// Whether a block has a pair.
-fn is_of(block: &Block, pair: Pair) -> bool
-    ensures { result ≡ same pair block.now.pair }
-{
-    pair == block.pair
-}
-
 // Whether the block at a place has a pair.
 fn is_at(blocks: &[Block], at: usize, pair: Pair) -> bool
     requires { at < length blocks.now }
     ensures { result ≡ same pair (pair_at (folders_of blocks.now) at) }
 {
-    is_of(&blocks[at], pair)
+    pair == blocks[at].pair
 }
 
 // The place of a pair's block: along the chain, which goes down.
