@@ -40,12 +40,7 @@ impl Opening<'_> {
     pub fn lists(&self, source: Source) -> bool
         ensures { Decides result (Somewhere (Names source) self.now.sources.now) }
     {
-        for listed in self.sources {
-            if listed.is(source) {
-                return true;
-            }
-        }
-        false
+        self.sources.iter().any(|listed| listed.is(source))
     }
 
     // Whether a collector of this id is listed.
@@ -59,11 +54,6 @@ impl Opening<'_> {
     pub fn agent_of(&self, distributor: u8) -> Option<usize>
         ensures { MatchOption result (Somewhere (Serves distributor) self.now.sources.now → ⊥) (FirstOf (Serves distributor) self.now.sources.now) }
     {
-        for (i, listed) in self.sources.iter().enumerate() {
-            if listed.serves(distributor) {
-                return Some(i);
-            }
-        }
-        None
+        self.sources.iter().position(|listed| listed.serves(distributor))
     }
 }

@@ -26,24 +26,14 @@ pub enum OpeningFault {
 fn first_out_of_range(sources: &[Listed]) -> Option<usize>
     ensures { MatchOption result (AllInRange sources.now) (FirstOutOfRange sources.now) }
 {
-    for (i, source) in sources.iter().enumerate() {
-        if !source.is_in_range() {
-            return Some(i);
-        }
-    }
-    None
+    sources.iter().position(|source| !source.is_in_range())
 }
 
 // The place of the first of some sources with which a source clashes.
 fn first_against(source: Listed, others: &[Listed]) -> Option<usize>
     ensures { MatchOption result ((k : ℕ) → k < length others.now → Clash source (source_at others.now k) → ⊥) (λ k. (k < length others.now) × Clash source (source_at others.now k) × ((j : ℕ) → j < k → Clash source (source_at others.now j) → ⊥)) }
 {
-    for (k, other) in others.iter().enumerate() {
-        if source.clashes(other) {
-            return Some(k);
-        }
-    }
-    None
+    others.iter().position(|other| source.clashes(other))
 }
 
 // The places of two sources that clash.
