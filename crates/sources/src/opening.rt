@@ -67,13 +67,12 @@ impl Opening<'_> {
         if self.sources.len() > Self::MOST_SOURCES {
             return Some(OpeningFault::TooMany);
         }
-        if let Some(place) = first_out_of_range(self.sources) {
-            return Some(OpeningFault::OutOfRange(place));
-        }
-        if let Some((first, second)) = first_clash(self.sources) {
-            return Some(OpeningFault::Clashing(first, second));
-        }
-        None
+        first_out_of_range(self.sources)
+            .map(OpeningFault::OutOfRange)
+            .or_else(|| {
+                let (first, second) = first_clash(self.sources)?;
+                Some(OpeningFault::Clashing(first, second))
+            })
     }
 
     // Whether a book may be opened with the list.
