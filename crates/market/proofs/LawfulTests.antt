@@ -110,7 +110,7 @@ combinations_told numbers cs rule k e =
     (p.0, λ d. combination_broken numbers _ _ rule (ap (λ bs. combination_rule numbers (previous bs k) (get_or cs k d)) (sym (map-id cs)) ∙ p.1 d))
 
 -- no list has a fault
-none_mapped : {X Y : Type 0} (f : X → Y) (o : Option X) → option_map f o ≡ None → o ≡ None
+pub none_mapped : {X Y : Type 0} (f : X → Y) (o : Option X) → option_map f o ≡ None → o ≡ None
 none_mapped f None e = refl
 none_mapped f (Some x) e = absurd (none-some (f x) (sym e))
 

@@ -7,22 +7,16 @@ ghost use Rattle.market.specs.Lists.{lists_of};
 
 use crate::edition::Edition;
 use crate::faults::EditionFault;
-use crate::rules::{check_combinations, check_configurations, check_ids};
+use crate::rules::{check_combinations, check_configurations, check_suppliers};
 
 impl<'a> Edition<'a> {
     // The lists one after another, up to the first fault.
     fn check(&self) -> Result<(), EditionFault>
         ensures { result_err result ≡ first_fault (lists_of self.now) }
     {
-        check_ids(self.suppliers).map_err(|(rule, place)| EditionFault::Supplier(rule, place))?;
-        let configurations = check_configurations(self.configurations).map_err(|(
-            rule,
-            place,
-        )| EditionFault::Configuration(rule, place))?;
-        check_combinations(&configurations, self.combinations).map_err(|(
-            rule,
-            place,
-        )| EditionFault::Combination(rule, place))
+        check_suppliers(self.suppliers)?;
+        let configurations = check_configurations(self.configurations)?;
+        check_combinations(&configurations, self.combinations)
     }
 
     // What is wrong with the edition, at the first place of the first list that has a fault: none if it is lawful.

@@ -1,12 +1,13 @@
 // What the rules of an edition find: the first rule that an entry breaks, and the first entry that breaks one.
 ghost use Rattle.std.specs.Prelude.{◌≡◌, map, IfOk, None, Option, Result, ⊤};
 ghost use Rattle.std.specs.Result.{result_err};
+ghost use Rattle.market.specs.Faults.{supplier_fault, configuration_fault, combination_fault};
 ghost use Rattle.market.specs.Lists.{listed, ids_of};
 ghost use Rattle.market.specs.Tests.{first_broken, id_rule, ids_broken, configuration_rule, configurations_broken, regimes_rule, is_listed, field_rule, follows, combination_rule, combinations_broken};
 
 use crate::ascents::Ascending;
 use crate::edition::{Combination, Configuration};
-use crate::faults::{CombinationRule, ConfigurationRule, IdRule};
+use crate::faults::{CombinationRule, ConfigurationRule, EditionFault, IdRule};
 use crate::keys::Keyed;
 use fields::days::is_day;
 use fields::letters::Group;
@@ -47,10 +48,16 @@ fn check_id(before: Option<u16>, id: u16) -> Result<(), IdRule>
     }
 }
 
-pub(crate) fn check_ids(ids: &[u16]) -> Result<(), (IdRule, usize)>
+fn check_ids(ids: &[u16]) -> Result<(), (IdRule, usize)>
     ensures { result_err result ≡ ids_broken ids.now }
 {
     check_each(ids, check_id)
+}
+
+pub(crate) fn check_suppliers(suppliers: &[u16]) -> Result<(), EditionFault>
+    ensures { result_err result ≡ supplier_fault (ids_broken suppliers.now) }
+{
+    check_ids(suppliers).map_err(|(rule, place)| EditionFault::Supplier(rule, place))
 }
 
 fn check_regimes(regimes: &[u16]) -> Result<(), ConfigurationRule>
@@ -72,16 +79,25 @@ fn check_configuration(
     check_regimes(configuration.regimes)
 }
 
-// Those that break no rule ascend.
-pub(crate) fn check_configurations<'a>(
-    configurations: &'a [Configuration<'a>],
-) -> Result<Ascending<'a, Configuration<'a>>, (ConfigurationRule, usize)>
-    ensures fault { result_err result ≡ configurations_broken (map listed configurations.now) }
-    ensures list { IfOk result (λ list. list.entries ≡ configurations.entry) }
+fn check_each_configuration(
+    configurations: &[Configuration<'_>],
+) -> Result<(), (ConfigurationRule, usize)>
+    ensures { result_err result ≡ configurations_broken (map listed configurations.now) }
 {
     check_each(configurations, |before, configuration| {
         check_configuration(before.map(|last| last.id), &configuration)
-    })?;
+    })
+}
+
+// Those that break no rule ascend.
+pub(crate) fn check_configurations<'a>(
+    configurations: &'a [Configuration<'a>],
+) -> Result<Ascending<'a, Configuration<'a>>, EditionFault>
+    ensures fault { result_err result ≡ configuration_fault (configurations_broken (map listed configurations.now)) }
+    ensures list { IfOk result (λ list. list.entries ≡ configurations.entry) }
+{
+    let checked = check_each_configuration(configurations);
+    checked.map_err(|(rule, place)| EditionFault::Configuration(rule, place))?;
     Ok(Ascending {
         entries: configurations,
     })
@@ -97,7 +113,7 @@ fn is_listed(configurations: &Ascending<'_, Configuration<'_>>, id: u16) -> bool
 fn check_fields(combination: &Combination) -> Result<(), CombinationRule>
     ensures { result_err result ≡ field_rule combination.now }
 {
-    if combination.configuration < 1 {
+    if combination.configuration == 0 {
         Err(CombinationRule::ConfigurationRange)
     } else if !(1..=MAXIMUM_CLASS).contains(&combination.class) {
         Err(CombinationRule::ClassRange)
@@ -142,10 +158,11 @@ fn check_combination(
 pub(crate) fn check_combinations(
     configurations: &Ascending<'_, Configuration<'_>>,
     combinations: &[Combination],
-) -> Result<(), (CombinationRule, usize)>
-    ensures { result_err result ≡ combinations_broken (ids_of (map listed configurations.now.entries.now)) combinations.now }
+) -> Result<(), EditionFault>
+    ensures { result_err result ≡ combination_fault (combinations_broken (ids_of (map listed configurations.now.entries.now)) combinations.now) }
 {
     check_each(combinations, |before, combination| {
         check_combination(configurations, before, &combination)
     })
+    .map_err(|(rule, place)| EditionFault::Combination(rule, place))
 }
