@@ -1,5 +1,5 @@
 -- What is looked up in an edition is what a plain search finds in its lists, if they are lawful.
-use Rattle.std.proofs.Common.{◌≡◌, ℕ, suc, Bool, true, false, cond, ◌&&◌, eqb, List, [], ◌∷◌, map, get_or, Some, None, MatchOption, Decides, Option, sym, refl, ap, ◌∙◌, ⊎_elim, arith}
+use Rattle.std.proofs.Common.{◌≡◌, ℕ, suc, Bool, true, false, cond, ◌&&◌, eqb, List, [], ◌∷◌, map, get_or, Some, None, MatchOption, Decides, Option, sym, refl, ap, ◌∙◌, ⊎_elim, arith, Bor}
 use Rattle.std.specs.Bool.{then_some}
 use Rattle.std.specs.List.{ContainsAt as Has}
 use Rattle.std.specs.Option.{option_map}
@@ -63,17 +63,23 @@ module _ (checked : CheckedEdition) where
       let there = rw e at d in
       (λ t. (lawful, there.0 t), λ h. there.1 h.1)
 
-  module _ (lawful : is_lawful (lists_in checked) ≡ true) where
-    pub regimes_are : (id : ℕ) (o : Option Configuration) → o ≡ first (λ (c : Configuration). eqb c.id id) checked.edition.configurations.now → option_map (λ (c : Configuration). c.regimes.now) o ≡ regimes_of (lists_in checked) id
-    regimes_are id o found =
+  -- the lawful edition that was handed out, and a list of it
+  module _ (edition : LawfulEdition) (same : edition.edition ≡ checked.edition) where
+    lawful : is_lawful (lists_in checked) ≡ true
+    lawful = rw same at edition.lawful
+
+    pub regimes_are : (id : ℕ) (list : Bor (List Configuration)) → list ≡ edition.edition.configurations → (o : Option Configuration) → o ≡ first (λ (c : Configuration). eqb c.id id) list.now → option_map (λ (c : Configuration). c.regimes.now) o ≡ regimes_of (lists_in checked) id
+    regimes_are id list its o found =
+        let there : o ≡ first (λ (c : Configuration). eqb c.id id) checked.edition.configurations.now = found ∙ ap (λ l. first (λ (c : Configuration). eqb c.id id) l.now) (its ∙ ap (λ e. e.configurations) same) in
         sym
-        (cond-true _ _ _ lawful ∙ ap (option_map (λ c. c.regimes)) (first_map listed (λ c. eqb c.id id) checked.edition.configurations.now ∙ ap (option_map listed) (sym found))
+        (cond-true _ _ _ lawful ∙ ap (option_map (λ c. c.regimes)) (first_map listed (λ c. eqb c.id id) checked.edition.configurations.now ∙ ap (option_map listed) (sym there))
         ∙ lent_regimes o)
 
-    pub default_is : (key : Key) (day : ℕ) (o : Option Combination) → o ≡ first (is_of key) checked.edition.combinations.now → option_map (λ c. c.default) (narrowed (is_on day) o) ≡ default_on (lists_in checked) key.configuration key.class key.group day
-    default_is key day o found =
+    pub default_is : (key : Key) (day : ℕ) (list : Bor (List Combination)) → list ≡ edition.edition.combinations → (o : Option Combination) → o ≡ first (is_of key) list.now → option_map (λ c. c.default) (narrowed (is_on day) o) ≡ default_on (lists_in checked) key.configuration key.class key.group day
+    default_is key day list its o found =
+        let there : o ≡ first (is_of key) checked.edition.combinations.now = found ∙ ap (λ l. first (is_of key) l.now) (its ∙ ap (λ e. e.combinations) same) in
         let up = ((lawful_decides (lists_in checked)).0 lawful).combinations_ascend in
-        sym (cond-true _ _ _ lawful ∙ ap (option_map (λ c. c.default)) (first_both _ (is_of key) (is_on day) (alone key) checked.edition.combinations.now up ∙ ap (narrowed (is_on day)) (sym found)))
+        sym (cond-true _ _ _ lawful ∙ ap (option_map (λ c. c.default)) (first_both _ (is_of key) (is_on day) (alone key) checked.edition.combinations.now up ∙ ap (narrowed (is_on day)) (sym there)))
 
 pub default_told : (b : Bool) (c : Combination) → then_some b c.default ≡ option_map (λ c. c.default) (cond b (Some c) None)
 default_told true c = refl

@@ -18,7 +18,7 @@ const MAXIMUM_CLASS: u8 = 16;
 
 const MAXIMUM_DEFAULT: u32 = 2_000_000_000;
 
-// The first rule that an entry breaks, judged beside the one before it, and the place of the entry.
+// Judges each entry beside the one before it, up to the first that breaks a rule: which one, and at what place.
 fn check_each<X: Copy, R: Copy, F: Fn(Option<X>, X) -> Result<(), R>>(
     entries: &[X],
     check: F,
