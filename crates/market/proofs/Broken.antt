@@ -1,18 +1,15 @@
 -- The first entry of a list that breaks a rule, and what it means that none does.
-use Rattle.std.proofs.Common.{◌≡◌, ℕ, zero, suc, ◌+◌, ◌<◌, ◌≤◌, Bool, true, false, cond, List, [], ◌∷◌, ◌++◌, map, length, get_or, drop, Some, None, Option, sym, refl, ap, ◌∙◌, subst, ⊎_elim, le_of_suc-le-suc, not-suc-le-zero, add-zero, add-one, arith}
+use Rattle.std.proofs.Common.{◌≡◌, ℕ, zero, suc, ◌+◌, ◌<◌, Bool, true, false, cond, List, [], ◌∷◌, ◌++◌, map, length, get_or, Some, None, Option, sym, refl, ap, ◌∙◌, subst, ⊎_elim, le_of_suc-le-suc, not-suc-le-zero, add-zero, arith}
 use Rattle.std.specs.List.{slice_get, AllByRecursion}
-use Rattle.std.specs.Option.{option_or}
-use Rattle.std.proofs.lemmas.List.{drop_more, drop_all}
+use Rattle.std.specs.Option.{option_map, option_or}
 use Rattle.std.proofs.lemmas.Bool.{cases_Bool, cond-true, cond-false}
+use Rattle.std.proofs.lemmas.Option.{none-some}
 use Rattle.market.specs.Orders.{Ordered, first, previous}
 use Rattle.market.specs.Tests.{told, first_broken}
 
-pub none_some : {X : Type 0} (x : X) → None ≡ Some x → ⊥
-none_some x e = let z : ◌≡◌ {A = ℕ} 0 1 = cc in omega arith
-
 module _ {X : Type 0} (test : X → Bool) where
   pub first_passes : (xs : List X) (x : X) → first test xs ≡ Some x → test x ≡ true
-  first_passes [] x e = absurd (none_some x e)
+  first_passes [] x e = absurd (none-some x e)
   first_passes (y ∷ ys) x e =
       ⊎_elim (λ t. let s : y ≡ x = cc (cond-true (test y) (Some y) (first test ys) t) in ap test (sym s) ∙ t)
       (λ f. first_passes ys x (sym (cond-false (test y) (Some y) (first test ys) f) ∙ e))
@@ -21,7 +18,7 @@ module _ {X : Type 0} (test : X → Bool) where
   pub first_none : (xs : List X) → first test xs ≡ None → AllByRecursion (λ x. test x ≡ false) xs
   first_none [] e = tt
   first_none (y ∷ ys) e =
-      ⊎_elim (λ t. absurd (none_some y (sym e ∙ cond-true (test y) (Some y) (first test ys) t)))
+      ⊎_elim (λ t. absurd (none-some y (sym e ∙ cond-true (test y) (Some y) (first test ys) t)))
       (λ f. (f, first_none ys (sym (cond-false (test y) (Some y) (first test ys) f) ∙ e)))
       (cases_Bool (test y))
 
@@ -38,7 +35,7 @@ module _ {X K R : Type 0} (key : X → K) (rule : Option K → X → Option R) w
 
   none_told : (o : Option R) (place : ℕ) (later : Option (R × ℕ)) → told o place later ≡ None → (o ≡ None) × (later ≡ None)
   none_told None place later e = (refl, e)
-  none_told (Some r) place later e = absurd (none_some (r, place) (sym e))
+  none_told (Some r) place later e = absurd (none-some (r, place) (sym e))
 
   pub clear : (before : Option K) (place : ℕ) (xs : List X) → first_broken key rule before place xs ≡ None → Clear before xs
   clear before place [] e = tt
@@ -74,7 +71,7 @@ module _ {X K R : Type 0} (key : X → K) (rule : Option K → X → Option R) w
   earlier_more k ks (suc i) = refl
 
   placed : (before : Option K) (place : ℕ) (xs : List X) (r : R) (n : ℕ) → first_broken key rule before place xs ≡ Some (r, n) → (i : ℕ) × (n ≡ place + i) × AtPlace earlier before xs r i
-  placed before place [] r n e = absurd (none_some (r, n) e)
+  placed before place [] r n e = absurd (none-some (r, n) e)
   placed before place (x ∷ xs) r n e = here (rule before x) refl (λ f. placed (Some (key x)) (suc place) xs r n f) e
     where
       here : (o : Option R) → rule before x ≡ o → (first_broken key rule (Some (key x)) (suc place) xs ≡ Some (r, n) → (i : ℕ) × (n ≡ suc place + i) × AtPlace earlier (Some (key x)) xs r i) → told o place (first_broken key rule (Some (key x)) (suc place) xs) ≡ Some (r, n) → (i : ℕ) × (n ≡ place + i) × AtPlace earlier before (x ∷ xs) r i
@@ -96,16 +93,7 @@ module _ {X K R : Type 0} (key : X → K) (rule : Option K → X → Option R) w
       let at : AtPlace earlier None xs r n = subst (AtPlace earlier None xs r) s p.2 in
       (at.0, λ d. ap (λ b. rule b (get_or xs n d)) (sym (none_before (map key xs) n)) ∙ at.1 d)
 
-  -- a walk over the list, at an entry that breaks a rule, at one that breaks none, and at the end
-  module _ (before : Option K) (xs : List X) (i : ℕ) (d x : X) (h : i < length xs) (is : get_or xs i d ≡ x) where
-    step : first_broken key rule before i (drop i xs) ≡ told (rule before x) i (first_broken key rule (Some (key x)) (i + 1) (drop (i + 1) xs))
-    step = ap (first_broken key rule before i) (drop_more xs i d h ∙ ap (λ y. y ∷ drop (i + 1) xs) is) ∙ ap (λ n. told (rule before x) i (first_broken key rule (Some (key x)) n (drop (i + 1) xs))) (sym (add-one i))
-
-    pub walk_broken : (r : R) → rule before x ≡ Some r → first_broken key rule before i (drop i xs) ≡ Some (r, i)
-    walk_broken r e = step ∙ ap (λ o. told o i (first_broken key rule (Some (key x)) (i + 1) (drop (i + 1) xs))) e
-
-    pub walk_more : rule before x ≡ None → first_broken key rule (Some (key x)) (i + 1) (drop (i + 1) xs) ≡ first_broken key rule before i (drop i xs)
-    walk_more e = sym (step ∙ ap (λ o. told o i (first_broken key rule (Some (key x)) (i + 1) (drop (i + 1) xs))) e)
-
-  pub walk_all : (before : Option K) (xs : List X) (i : ℕ) → length xs ≤ i → first_broken key rule before i (drop i xs) ≡ None
-  walk_all before xs i h = ap (first_broken key rule before i) (drop_all i xs h)
+-- the entries of a list as a rule reads them
+pub broken_map : {X Y K R : Type 0} (f : X → Y) (key : Y → K) (rule : Option K → Y → Option R) (before : Option X) (place : ℕ) (xs : List X) → first_broken (λ x. x) (λ b x. rule (option_map (λ y. key (f y)) b) (f x)) before place xs ≡ first_broken key rule (option_map (λ y. key (f y)) before) place (map f xs)
+broken_map f key rule before place [] = refl
+broken_map f key rule before place (x ∷ xs) = ap (told (rule (option_map (λ y. key (f y)) before) (f x)) place) (broken_map f key rule (Some x) (suc place) xs)

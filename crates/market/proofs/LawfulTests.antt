@@ -4,7 +4,7 @@ use Rattle.std.specs.List.{slice_get, ContainsAt as Has, AllByRecursion}
 use Rattle.std.specs.Option.{option_map, option_or}
 use Rattle.std.proofs.ByRecursion.{All-get_or, All-map, All-weaker}
 use Rattle.std.proofs.lemmas.List.{map-id, length-map, get_or-map}
-use Rattle.std.proofs.lemmas.Option.{slice_get-get_or}
+use Rattle.std.proofs.lemmas.Option.{none-some, slice_get-get_or}
 use Rattle.std.proofs.lemmas.Bool.{false≢true, cases_Bool, cond-true, cond-false}
 use Rattle.std.proofs.lemmas.Bool.Decides.{Decides-and, not_from_Decides}
 use Rattle.fields.specs.Ascent.{Ascending}
@@ -25,7 +25,7 @@ use Rattle.market.specs.declared.faults.EditionFault.TheVariants as fault
 use Rattle.market.specs.declared.faults.IdRule.{IdRule}
 use Rattle.market.specs.declared.faults.IdRule.TheVariants as ids
 use Rattle.market.specs.declared.keys.Key.{Key}
-use Rattle.market.proofs.Broken.{none_some, clear, clear_all, clear_ordered, broken_at}
+use Rattle.market.proofs.Broken.{clear, clear_all, clear_ordered, broken_at}
 use Rattle.market.proofs.RuleTests.{decides_leb, ids_kept, combinations_kept, id_broken, combination_broken}
 
 -- lists of ids
@@ -50,11 +50,11 @@ pub record LawfulConfiguration (c : Listed) : Type 0 where
 
 regimes_clear : (o : Option (IdRule × ℕ)) → regime_rule o ≡ None → o ≡ None
 regimes_clear None e = refl
-regimes_clear (Some b) e = absurd (none_some _ (sym e))
+regimes_clear (Some b) e = absurd (none-some _ (sym e))
 
 own_clear : (o : Option IdRule) (later : Option ConfigurationRule) → id_first o later ≡ None → (o ≡ None) × (later ≡ None)
 own_clear None later e = (refl, e)
-own_clear (Some r) later e = absurd (none_some _ (sym e))
+own_clear (Some r) later e = absurd (none-some _ (sym e))
 
 few_decides : (regimes : List ℕ) → Decides (leb 1 (length regimes) && leb (length regimes) 4) (Few (length regimes))
 few_decides regimes = Decides-and _ _ (decides_leb 1 (length regimes)) (decides_leb (length regimes) 4)
@@ -62,7 +62,7 @@ few_decides regimes = Decides-and _ _ (decides_leb 1 (length regimes)) (decides_
 regimes_lawful : (regimes : List ℕ) → regimes_rule regimes ≡ None → Few (length regimes) × (ids_broken regimes ≡ None)
 regimes_lawful regimes e =
     ⊎_elim (λ t. ((few_decides regimes).0 t, regimes_clear (ids_broken regimes) (sym (cond-true _ _ _ t) ∙ e)))
-    (λ f. absurd (none_some _ (sym e ∙ cond-false _ _ _ f)))
+    (λ f. absurd (none-some _ (sym e ∙ cond-false _ _ _ f)))
     (cases_Bool (leb 1 (length regimes) && leb (length regimes) 4))
 
 configuration_clear : (before : Option ℕ) (c : Listed) → configuration_rule before c ≡ None → (id_rule before c.id ≡ None) × LawfulConfiguration c
@@ -79,7 +79,7 @@ configurations_clear cs e =
     (clear_all (λ c. c.id) configuration_rule LawfulConfiguration (λ b c f. (configuration_clear b c f).1) None cs h, λ i j l m. ordered i j 0 l m)
 
 regime_told : (before : Option ℕ) (c : Listed) (o : Option (IdRule × ℕ)) (rule : ConfigurationRule) → ids_broken c.regimes ≡ o → regime_rule o ≡ Some rule → BreaksConfiguration rule before c
-regime_told before c None rule is e = absurd (none_some rule e)
+regime_told before c None rule is e = absurd (none-some rule e)
 regime_told before c (Some b) rule is e =
     let s : configuration.Regime b.0 b.1 ≡ rule = cc in
     subst (λ (r : ConfigurationRule). BreaksConfiguration r before c) s (ids_told c.regimes b.0 b.1 is)
@@ -110,13 +110,13 @@ combinations_told numbers cs rule k e =
     (p.0, λ d. combination_broken numbers _ _ rule (ap (λ bs. combination_rule numbers (previous bs k) (get_or cs k d)) (sym (map-id cs)) ∙ p.1 d))
 
 -- no list has a fault
-none_mapped : {X Y : Type 0} (f : X → Y) (o : Option X) → option_map f o ≡ None → o ≡ None
+pub none_mapped : {X Y : Type 0} (f : X → Y) (o : Option X) → option_map f o ≡ None → o ≡ None
 none_mapped f None e = refl
-none_mapped f (Some x) e = absurd (none_some (f x) (sym e))
+none_mapped f (Some x) e = absurd (none-some (f x) (sym e))
 
 none_either : {X : Type 0} (o later : Option X) → option_or o later ≡ None → (o ≡ None) × (later ≡ None)
 none_either None later e = (refl, e)
-none_either (Some x) later e = absurd (none_some x (sym e))
+none_either (Some x) later e = absurd (none-some x (sym e))
 
 pub none_lawful : (lists : Lists) → first_fault lists ≡ None → Lawful lists
 unfolding first_fault
@@ -165,7 +165,7 @@ configuration_told lists (Some b) later f is e =
     inr (subst (λ (f : EditionFault). Breaks f lists) s (configurations_told lists.configurations b.0 b.1 is))
 
 combination_told : (lists : Lists) (o : Option (CombinationRule × ℕ)) (f : EditionFault) → combinations_broken (ids_of lists.configurations) lists.combinations ≡ o → combination_fault o ≡ Some f → Breaks f lists
-combination_told lists None f is e = absurd (none_some f e)
+combination_told lists None f is e = absurd (none-some f e)
 combination_told lists (Some b) f is e =
     let s : fault.Combination b.0 b.1 ≡ f = cc in
     subst (λ (f : EditionFault). Breaks f lists) s (combinations_told (ids_of lists.configurations) lists.combinations b.0 b.1 is)
@@ -239,22 +239,14 @@ lawful_is lists o e = ap (λ f. not (is_some f)) e
 
 -- the lists are looked at one after another
 module _ (lists : Lists) where
-  later : Option EditionFault
-  later = option_or (configuration_fault (configurations_broken lists.configurations)) (combination_fault (combinations_broken (ids_of lists.configurations) lists.combinations))
+  pub fault_supplier : (f : EditionFault) → supplier_fault (ids_broken lists.suppliers) ≡ Some f → first_fault lists ≡ Some f
+  unfolding first_fault
+  fault_supplier f e = rw e refl
 
-  after_suppliers : (o : Option (IdRule × ℕ)) → ids_broken lists.suppliers ≡ o → first_fault lists ≡ option_or (supplier_fault o) later
-  unfolding first_fault later
-  after_suppliers o e = ap (λ b. option_or (supplier_fault b) later) e
+  pub fault_configuration : supplier_fault (ids_broken lists.suppliers) ≡ None → (f : EditionFault) → configuration_fault (configurations_broken lists.configurations) ≡ Some f → first_fault lists ≡ Some f
+  unfolding first_fault
+  fault_configuration none f e = rw (none, e) refl
 
-  pub fault_supplier : (rule : IdRule) (k : ℕ) → ids_broken lists.suppliers ≡ Some (rule, k) → first_fault lists ≡ Some (fault.Supplier rule k)
-  fault_supplier rule k e = after_suppliers (Some (rule, k)) e
-
-  after_configurations : ids_broken lists.suppliers ≡ None → (o : Option (ConfigurationRule × ℕ)) → configurations_broken lists.configurations ≡ o → first_fault lists ≡ option_or (configuration_fault o) (combination_fault (combinations_broken (ids_of lists.configurations) lists.combinations))
-  unfolding later
-  after_configurations e o f = after_suppliers None e ∙ ap (λ b. option_or (configuration_fault b) (combination_fault (combinations_broken (ids_of lists.configurations) lists.combinations))) f
-
-  pub fault_configuration : ids_broken lists.suppliers ≡ None → (rule : ConfigurationRule) (k : ℕ) → configurations_broken lists.configurations ≡ Some (rule, k) → first_fault lists ≡ Some (fault.Configuration rule k)
-  fault_configuration e rule k f = after_configurations e (Some (rule, k)) f
-
-  pub fault_combination : ids_broken lists.suppliers ≡ None → configurations_broken lists.configurations ≡ None → (o : Option (CombinationRule × ℕ)) → combinations_broken (ids_of lists.configurations) lists.combinations ≡ o → first_fault lists ≡ combination_fault o
-  fault_combination e f o h = after_configurations e None f ∙ ap combination_fault h
+  pub fault_combination : supplier_fault (ids_broken lists.suppliers) ≡ None → configuration_fault (configurations_broken lists.configurations) ≡ None → first_fault lists ≡ combination_fault (combinations_broken (ids_of lists.configurations) lists.combinations)
+  unfolding first_fault
+  fault_combination none also = rw (none, also) refl

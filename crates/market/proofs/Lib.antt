@@ -1,8 +1,10 @@
+pub mod InOrder
 pub mod Broken
 pub mod Finding
 pub mod LawfulTests
+pub mod KeyOrder
 pub mod Listing
-pub mod Parts
 pub mod RuleTests
 pub mod Sides
 pub mod Verdicts
+pub mod Searched

@@ -1,23 +1,27 @@
--- The ids of configurations, read where they are lent.
-use Rattle.std.proofs.Common.{◌≡◌, ℕ, ◌<◌, true, false, List, [], ◌∷◌, map, length, get_or, sym, refl, ap, subst, ⊎_elim}
-use Rattle.std.specs.List.{ContainsAt as Has}
-use Rattle.std.proofs.ByRecursion.{has_get_or}
-use Rattle.std.proofs.lemmas.Bool.{cases_Bool}
+-- Whether a number is one of the numbers of a list's entries.
+use Rattle.std.proofs.Common.{◌≡◌, ℕ, true, false, eqb, ◌||◌, cond, List, [], ◌∷◌, map, is_some, Some, None, Option, sym, refl, ap, ◌∙◌}
+use Rattle.std.specs.Option.{option_map}
+use Rattle.std.proofs.lemmas.List.{map-id}
 use Rattle.market.specs.Lists.{listed, ids_of}
+use Rattle.market.specs.Orders.{first}
 use Rattle.market.specs.Tests.{is_listed}
 use Rattle.market.specs.declared.edition.Configuration.{Configuration}
-use Rattle.market.proofs.RuleTests.{listed_decides}
+
+pub listed_first : {X : Type 0} (number : X → ℕ) (id : ℕ) (xs : List X) → is_listed id (map number xs) ≡ is_some (first (λ x. eqb (number x) id) xs)
+listed_first number id [] = refl
+listed_first number id (x ∷ xs) =
+    elim (eqb (number x) id) as (λ t. (t || is_listed id (map number xs)) ≡ is_some (cond t (Some x) (first (λ y. eqb (number y) id) xs))) [ true ↦ refl | false ↦ listed_first number id xs ]
+
+pub number_listed : (id : ℕ) (numbers : List ℕ) → is_listed id numbers ≡ is_some (first (λ n. eqb n id) numbers)
+number_listed id numbers = ap (is_listed id) (sym (map-id numbers)) ∙ listed_first (λ n. n) id numbers
 
 pub ids_lent : (cs : List Configuration) → ids_of (map listed cs) ≡ map (λ (c : Configuration). c.id) cs
 ids_lent [] = refl
 ids_lent (c ∷ cs) = ap (λ ids. c.id ∷ ids) (ids_lent cs)
 
-pub has_at : (numbers : List ℕ) (k n : ℕ) → k < length numbers → get_or numbers k 0 ≡ n → Has numbers n
-has_at numbers k n h e = subst (Has numbers) e (has_get_or numbers k 0 h)
+pub configuration_listed : (cs : List Configuration) (id : ℕ) → is_listed id (ids_of (map listed cs)) ≡ is_some (first (λ (c : Configuration). eqb c.id id) cs)
+configuration_listed cs id = ap (is_listed id) (ids_lent cs) ∙ listed_first (λ (c : Configuration). c.id) id cs
 
-pub listed_if : (cs : List Configuration) (id : ℕ) → Has (map (λ (c : Configuration). c.id) cs) id → true ≡ is_listed id (ids_of (map listed cs))
-listed_if cs id has = sym ((listed_decides id (ids_of (map listed cs))).1 (subst (λ (ns : List ℕ). Has ns id) (sym (ids_lent cs)) has))
-
-pub unlisted_if : (cs : List Configuration) (id : ℕ) → (Has (map (λ (c : Configuration). c.id) cs) id → ⊥) → false ≡ is_listed id (ids_of (map listed cs))
-unlisted_if cs id none =
-    ⊎_elim (λ t. absurd (none (subst (λ (ns : List ℕ). Has ns id) (ids_lent cs) ((listed_decides id (ids_of (map listed cs))).0 t)))) (λ f. sym f) (cases_Bool (is_listed id (ids_of (map listed cs))))
+pub some_mapped : {X Y : Type 0} (f : X → Y) (o : Option X) → is_some (option_map f o) ≡ is_some o
+some_mapped f None = refl
+some_mapped f (Some x) = refl

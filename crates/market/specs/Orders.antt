@@ -1,6 +1,6 @@
 -- Places in a list: what stands first, before another, in order.
-use Rattle.std.specs.Prelude.{◌≡◌, ℕ, zero, suc, ◌<◌, Bool, true, cond, List, [], ◌∷◌, length, Some, None, Option, MatchOption, slice_index, slice_index_or}
-use Rattle.std.specs.List.{slice_get, ContainsAt as Has}
+use Rattle.std.specs.Prelude.{ℕ, zero, suc, ◌<◌, Bool, cond, List, [], ◌∷◌, length, Some, None, Option, slice_index_or}
+use Rattle.std.specs.List.{slice_get}
 
 -- the first entry that passes a test
 abbrev pub first : {X : Type 0} → (X → Bool) → List X → Option X
@@ -15,11 +15,3 @@ previous xs (suc i) = slice_get xs i
 -- of any two entries, the earlier is related so to the later
 abbrev pub Ordered : {X : Type 0} → (X → X → Type 0) → List X → Type 0
 Ordered {X} R xs = (i j : ℕ) (d : X) → i < j → j < length xs → R (slice_index_or xs i d) (slice_index_or xs j d)
-
--- the entries that pass the test stand before those that fail it
-abbrev pub Parted : {X : Type 0} → (X → Bool) → List X → Type 0
-Parted test xs = Ordered (λ x y. test y ≡ true → test x ≡ true) xs
-
--- the place where a number stands in a list, or that it stands nowhere
-abbrev pub Placed : ℕ → List ℕ → Option ℕ → Type 0
-Placed n numbers r = MatchOption r (Has numbers n → ⊥) (λ k. (k < length numbers) × (slice_index numbers k ≡ n))

@@ -1,4 +1,6 @@
 // What an edition lists. It is lent for reading, and may hold anything: whether it is lawful is asked of it.
+ghost use Rattle.std.specs.Prelude.{◌≡◌};
+ghost use Rattle.market.specs.Keys.{is_on};
 
 // A settlement configuration, and the time pattern regimes that it is metered in.
 #[derive(Clone, Copy)]
@@ -17,6 +19,15 @@ pub struct Combination {
     pub first: u16,
     pub last: u16,
     pub default: i32,
+}
+
+impl Combination {
+    // Whether a day is one of its days.
+    pub(crate) fn is_on(&self, day: u16) -> bool
+        ensures { result ≡ is_on day self.now }
+    {
+        (self.first..=self.last).contains(&day)
+    }
 }
 
 #[derive(Clone, Copy)]

@@ -1,13 +1,14 @@
-// The first rule that an entry of an edition breaks, and the first entry that breaks one.
-ghost use Rattle.std.specs.Prelude.{◌≡◌, map};
-ghost use Rattle.fields.specs.Ascent.{Ascending};
+// What the rules of an edition find: the first rule that an entry breaks, and the first entry that breaks one.
+ghost use Rattle.std.specs.Prelude.{◌≡◌, map, IfOk, None, Option, Result, ⊤};
+ghost use Rattle.std.specs.Result.{result_err};
+ghost use Rattle.market.specs.Faults.{supplier_fault, configuration_fault, combination_fault};
 ghost use Rattle.market.specs.Lists.{listed, ids_of};
-ghost use Rattle.market.specs.Tests.{id_rule, ids_broken, configuration_rule, configurations_broken, regimes_rule, is_listed, field_rule, follows, combination_rule, combinations_broken};
+ghost use Rattle.market.specs.Tests.{first_broken, id_rule, ids_broken, configuration_rule, configurations_broken, regimes_rule, is_listed, field_rule, follows, combination_rule, combinations_broken};
 
+use crate::ascents::Ascending;
 use crate::edition::{Combination, Configuration};
-use crate::faults::{CombinationRule, ConfigurationRule, IdRule};
-use crate::keys::Key;
-use crate::places::id_place;
+use crate::faults::{CombinationRule, ConfigurationRule, EditionFault, IdRule};
+use crate::keys::Keyed;
 use fields::days::is_day;
 use fields::letters::Group;
 
@@ -17,144 +18,151 @@ const MAXIMUM_CLASS: u8 = 16;
 
 const MAXIMUM_DEFAULT: u32 = 2_000_000_000;
 
-fn id_rule(before: Option<u16>, id: u16) -> Option<IdRule>
-    ensures { result ≡ id_rule before id }
+// Judges each entry beside the one before it, up to the first that breaks a rule: which one, and at what place.
+fn check_each<X: Copy, R: Copy, F: Fn(Option<X>, X) -> Result<(), R>>(
+    entries: &[X],
+    check: F,
+) -> Result<(), (R, usize)>
+    requires { F.IsAlwaysCallable check }
+    ensures { (rule : Option X → X → Option R) → ((before : Option X) (x : X) (r : Result ⊤ R) → F.post check before x r → result_err r ≡ rule before x) → result_err result ≡ first_broken (λ x. x) rule None 0 entries.now }
+{
+    let mut before = None;
+    for (place, entry) in entries.iter().enumerate() {
+        if let Err(rule) = check(before, *entry) {
+            return Err((rule, place));
+        }
+        before = Some(*entry);
+    }
+    Ok(())
+}
+
+fn check_id(before: Option<u16>, id: u16) -> Result<(), IdRule>
+    ensures { result_err result ≡ id_rule before id }
 {
     if id == 0 {
-        return Some(IdRule::Range);
+        return Err(IdRule::Range);
     }
     match before {
-        Some(last) => if last < id { None } else { Some(IdRule::Order) },
-        None => None,
+        Some(last) if last >= id => Err(IdRule::Order),
+        _ => Ok(()),
     }
 }
 
-pub(crate) fn ids_broken(ids: &[u16]) -> Option<(IdRule, usize)>
-    ensures { result ≡ ids_broken ids.now }
+fn check_ids(ids: &[u16]) -> Result<(), (IdRule, usize)>
+    ensures { result_err result ≡ ids_broken ids.now }
 {
-    let mut before = None;
-    for (i, id) in ids.iter().enumerate() {
-        if let Some(rule) = id_rule(before, *id) {
-            return Some((rule, i));
-        }
-        before = Some(*id);
-    }
-    None
+    check_each(ids, check_id)
 }
 
-fn regimes_rule(regimes: &[u16]) -> Option<ConfigurationRule>
-    ensures { result ≡ regimes_rule regimes.now }
+pub(crate) fn check_suppliers(suppliers: &[u16]) -> Result<(), EditionFault>
+    ensures { result_err result ≡ supplier_fault (ids_broken suppliers.now) }
 {
-    if regimes.len() < 1 || regimes.len() > MAXIMUM_REGIMES {
-        return Some(ConfigurationRule::RegimeCount);
-    }
-    match ids_broken(regimes) {
-        Some((rule, place)) => Some(ConfigurationRule::Regime(rule, place)),
-        None => None,
-    }
+    check_ids(suppliers).map_err(|(rule, place)| EditionFault::Supplier(rule, place))
 }
 
-fn configuration_rule(
+fn check_regimes(regimes: &[u16]) -> Result<(), ConfigurationRule>
+    ensures { result_err result ≡ regimes_rule regimes.now }
+{
+    if !(1..=MAXIMUM_REGIMES).contains(&regimes.len()) {
+        return Err(ConfigurationRule::RegimeCount);
+    }
+    check_ids(regimes).map_err(|(rule, place)| ConfigurationRule::Regime(rule, place))
+}
+
+fn check_configuration(
     before: Option<u16>,
     configuration: &Configuration<'_>,
-) -> Option<ConfigurationRule>
-    ensures { result ≡ configuration_rule before (listed configuration.now) }
+) -> Result<(), ConfigurationRule>
+    ensures { result_err result ≡ configuration_rule before (listed configuration.now) }
 {
-    match id_rule(before, configuration.id) {
-        Some(rule) => Some(ConfigurationRule::Id(rule)),
-        None => regimes_rule(configuration.regimes),
-    }
+    check_id(before, configuration.id).map_err(ConfigurationRule::Id)?;
+    check_regimes(configuration.regimes)
 }
 
-pub(crate) fn configurations_broken(
+fn check_each_configuration(
     configurations: &[Configuration<'_>],
-) -> Option<(ConfigurationRule, usize)>
-    ensures { result ≡ configurations_broken (map listed configurations.now) }
+) -> Result<(), (ConfigurationRule, usize)>
+    ensures { result_err result ≡ configurations_broken (map listed configurations.now) }
 {
-    let mut before = None;
-    for (i, configuration) in configurations.iter().enumerate() {
-        if let Some(rule) = configuration_rule(before, configuration) {
-            return Some((rule, i));
-        }
-        before = Some(configuration.id);
-    }
-    None
+    check_each(configurations, |before, configuration| {
+        check_configuration(before.map(|last| last.id), &configuration)
+    })
 }
 
-fn is_listed(configurations: &[Configuration<'_>], id: u16) -> bool
-    requires { Ascending (ids_of (map listed configurations.now)) }
-    ensures { result ≡ is_listed id (ids_of (map listed configurations.now)) }
+// Those that break no rule ascend.
+pub(crate) fn check_configurations<'a>(
+    configurations: &'a [Configuration<'a>],
+) -> Result<Ascending<'a, Configuration<'a>>, EditionFault>
+    ensures fault { result_err result ≡ configuration_fault (configurations_broken (map listed configurations.now)) }
+    ensures list { IfOk result (λ list. list.entries ≡ configurations.entry) }
 {
-    match id_place(configurations, id) {
-        Some(_) => true,
-        None => false,
-    }
+    let checked = check_each_configuration(configurations);
+    checked.map_err(|(rule, place)| EditionFault::Configuration(rule, place))?;
+    Ok(Ascending {
+        entries: configurations,
+    })
+}
+
+fn is_listed(configurations: &Ascending<'_, Configuration<'_>>, id: u16) -> bool
+    ensures { result ≡ is_listed id (ids_of (map listed configurations.now.entries.now)) }
+{
+    configurations.find(id).is_some()
 }
 
 // What a combination breaks by itself, whatever is listed beside it.
-fn field_rule(combination: &Combination) -> Option<CombinationRule>
-    ensures { result ≡ field_rule combination.now }
+fn check_fields(combination: &Combination) -> Result<(), CombinationRule>
+    ensures { result_err result ≡ field_rule combination.now }
 {
-    if combination.configuration < 1 {
-        Some(CombinationRule::ConfigurationRange)
-    } else if combination.class < 1 || combination.class > MAXIMUM_CLASS {
-        Some(CombinationRule::ClassRange)
+    if combination.configuration == 0 {
+        Err(CombinationRule::ConfigurationRange)
+    } else if !(1..=MAXIMUM_CLASS).contains(&combination.class) {
+        Err(CombinationRule::ClassRange)
     } else if Group::from_letter(combination.group).is_none() {
-        Some(CombinationRule::GroupRange)
+        Err(CombinationRule::GroupRange)
     } else if !is_day(combination.first) {
-        Some(CombinationRule::FirstDayRange)
+        Err(CombinationRule::FirstDayRange)
     } else if !is_day(combination.last) {
-        Some(CombinationRule::LastDayRange)
+        Err(CombinationRule::LastDayRange)
     } else if combination.default.unsigned_abs() > MAXIMUM_DEFAULT {
-        Some(CombinationRule::DefaultRange)
+        Err(CombinationRule::DefaultRange)
     } else if combination.first > combination.last {
-        Some(CombinationRule::DayOrder)
+        Err(CombinationRule::DayOrder)
     } else {
-        None
+        Ok(())
     }
 }
 
 fn follows(before: Option<Combination>, combination: &Combination) -> bool
     ensures { result ≡ follows before combination.now }
 {
-    match before {
-        Some(last) => Key::of(&last).precedes(Key::of(combination)),
-        None => true,
-    }
+    before.is_none_or(|last| last.key() < combination.key())
 }
 
-fn combination_rule(
-    configurations: &[Configuration<'_>],
+fn check_combination(
+    configurations: &Ascending<'_, Configuration<'_>>,
     before: Option<Combination>,
     combination: &Combination,
-) -> Option<CombinationRule>
-    requires { Ascending (ids_of (map listed configurations.now)) }
-    ensures { result ≡ combination_rule (ids_of (map listed configurations.now)) before combination.now }
+) -> Result<(), CombinationRule>
+    ensures { result_err result ≡ combination_rule (ids_of (map listed configurations.now.entries.now)) before combination.now }
 {
-    if let Some(rule) = field_rule(combination) {
-        Some(rule)
-    } else if !is_listed(configurations, combination.configuration) {
-        Some(CombinationRule::Listing)
+    check_fields(combination)?;
+    if !is_listed(configurations, combination.configuration) {
+        Err(CombinationRule::Listing)
     } else if !follows(before, combination) {
-        Some(CombinationRule::Order)
+        Err(CombinationRule::Order)
     } else {
-        None
+        Ok(())
     }
 }
 
-pub(crate) fn combinations_broken(
-    configurations: &[Configuration<'_>],
+pub(crate) fn check_combinations(
+    configurations: &Ascending<'_, Configuration<'_>>,
     combinations: &[Combination],
-) -> Option<(CombinationRule, usize)>
-    requires { Ascending (ids_of (map listed configurations.now)) }
-    ensures { result ≡ combinations_broken (ids_of (map listed configurations.now)) combinations.now }
+) -> Result<(), EditionFault>
+    ensures { result_err result ≡ combination_fault (combinations_broken (ids_of (map listed configurations.now.entries.now)) combinations.now) }
 {
-    let mut before = None;
-    for (i, combination) in combinations.iter().enumerate() {
-        if let Some(rule) = combination_rule(configurations, before, combination) {
-            return Some((rule, i));
-        }
-        before = Some(*combination);
-    }
-    None
+    check_each(combinations, |before, combination| {
+        check_combination(configurations, before, &combination)
+    })
+    .map_err(|(rule, place)| EditionFault::Combination(rule, place))
 }

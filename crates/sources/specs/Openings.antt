@@ -10,9 +10,13 @@ use Rattle.sources.specs.Listings.{InRange, Clash}
 abbrev pub source_at : List Listed → ℕ → Listed
 source_at ss i = slice_index_or ss i (Collector 0)
 
+-- the source at a place clashes with none behind it, up to another place
+abbrev pub NoneBehind : List Listed → ℕ → ℕ → Type 0
+NoneBehind ss i end = (j : ℕ) → i < j → j < end → Clash (source_at ss i) (source_at ss j) → ⊥
+
 -- no two places have sources that clash
 abbrev pub Apart : List Listed → Type 0
-Apart ss = (i j : ℕ) → i < j → j < length ss → Clash (source_at ss i) (source_at ss j) → ⊥
+Apart ss = (i : ℕ) → NoneBehind ss i (length ss)
 
 abbrev pub AllInRange : List Listed → Type 0
 AllInRange ss = (i : ℕ) → i < length ss → InRange (source_at ss i)
@@ -28,8 +32,8 @@ pub record FirstClash (ss : List Listed) (first second : ℕ) : Type 0 where
   pub order : first < second
   pub inside : second < length ss
   pub here : Clash (source_at ss first) (source_at ss second)
-  pub before : (i j : ℕ) → i < first → i < j → j < length ss → Clash (source_at ss i) (source_at ss j) → ⊥
-  pub between : (j : ℕ) → first < j → j < second → Clash (source_at ss first) (source_at ss j) → ⊥
+  pub before : (i : ℕ) → i < first → NoneBehind ss i (length ss)
+  pub between : NoneBehind ss first second
 
 -- at most 128 sources, each in range, and no two that clash
 pub record Lawful (ss : List Listed) : Type 0 where

@@ -17,8 +17,7 @@ impl Listed {
         ensures { result ≡ id_of self.now }
     {
         match self {
-            Listed::Agent { id, .. } => *id,
-            Listed::Collector { id } => *id,
+            Listed::Agent { id, .. } | Listed::Collector { id } => *id,
         }
     }
 

@@ -9,29 +9,31 @@ use crate::listed::Listed;
 use crate::opening::Opening;
 use commands::command::Source;
 
+// The source as a file names it.
+impl From<Listed> for Source {
+    ghost from_gives = { λ listed source. Names source listed };
+
+    fn from(listed: Listed) -> Source {
+        match listed {
+            Listed::Agent { id, .. } => Source::Agent(id),
+            Listed::Collector { id } => Source::Collector(id),
+        }
+    }
+}
+
 impl Listed {
     // Whether this is the source that a file names.
     pub fn is(&self, source: Source) -> bool
         ensures { Decides result (Names source self.now) }
     {
-        match (source, *self) {
-            (Source::Agent(id), Listed::Agent { id: listed, .. }) => id == listed,
-            (Source::Collector(id), Listed::Collector { id: listed }) => id == listed,
-            _ => false,
-        }
+        Source::from(*self) == source
     }
 
     // Whether this is an agent that serves the distributor.
     pub fn serves(&self, distributor: u8) -> bool
         ensures { Decides result (Serves distributor self.now) }
     {
-        match self {
-            Listed::Agent {
-                distributor: served,
-                ..
-            } => distributor == *served,
-            Listed::Collector { .. } => false,
-        }
+        matches!(self, Listed::Agent { distributor: served, .. } if distributor == *served)
     }
 }
 
@@ -40,12 +42,7 @@ impl Opening<'_> {
     pub fn lists(&self, source: Source) -> bool
         ensures { Decides result (Somewhere (Names source) self.now.sources.now) }
     {
-        for listed in self.sources {
-            if listed.is(source) {
-                return true;
-            }
-        }
-        false
+        self.sources.iter().any(|listed| listed.is(source))
     }
 
     // Whether a collector of this id is listed.
@@ -59,11 +56,8 @@ impl Opening<'_> {
     pub fn agent_of(&self, distributor: u8) -> Option<usize>
         ensures { MatchOption result (Somewhere (Serves distributor) self.now.sources.now → ⊥) (FirstOf (Serves distributor) self.now.sources.now) }
     {
-        for (i, listed) in self.sources.iter().enumerate() {
-            if listed.serves(distributor) {
-                return Some(i);
-            }
-        }
-        None
+        self.sources
+            .iter()
+            .position(|listed| listed.serves(distributor))
     }
 }

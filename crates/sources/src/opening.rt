@@ -1,7 +1,7 @@
 // A list of sources, and whether a book may be opened with it.
 ghost use Rattle.std.specs.Prelude.{◌≡◌, ℕ, ◌<◌, length, Decides, MatchOption};
 ghost use Rattle.sources.specs.Listings.{Clash};
-ghost use Rattle.sources.specs.Openings.{source_at, Apart, AllInRange, FirstOutOfRange, FirstClash, Lawful, Breaks};
+ghost use Rattle.sources.specs.Openings.{source_at, Apart, AllInRange, FirstOutOfRange, FirstClash, NoneBehind, Lawful, Breaks};
 
 use crate::listed::Listed;
 
@@ -26,37 +26,34 @@ pub enum OpeningFault {
 fn first_out_of_range(sources: &[Listed]) -> Option<usize>
     ensures { MatchOption result (AllInRange sources.now) (FirstOutOfRange sources.now) }
 {
-    for (i, source) in sources.iter().enumerate() {
-        if !source.is_in_range() {
-            return Some(i);
-        }
-    }
-    None
+    sources.iter().position(|source| !source.is_in_range())
 }
 
 // The place of the first of some sources with which a source clashes.
-fn first_against(source: Listed, others: &[Listed]) -> Option<usize>
-    ensures { MatchOption result ((k : ℕ) → k < length others.now → Clash source (source_at others.now k) → ⊥) (λ k. (k < length others.now) × Clash source (source_at others.now k) × ((j : ℕ) → j < k → Clash source (source_at others.now j) → ⊥)) }
+fn first_against(source: &Listed, others: &[Listed]) -> Option<usize>
+    ensures { MatchOption result ((k : ℕ) → k < length others.now → Clash source.now (source_at others.now k) → ⊥) (λ k. (k < length others.now) × Clash source.now (source_at others.now k) × ((j : ℕ) → j < k → Clash source.now (source_at others.now j) → ⊥)) }
 {
-    for (k, other) in others.iter().enumerate() {
-        if source.clashes(other) {
-            return Some(k);
-        }
-    }
-    None
+    others.iter().position(|other| source.clashes(other))
+}
+
+// The place of the first source behind this one that clashes with it.
+fn clash_behind(sources: &[Listed], first: usize) -> Option<usize>
+    requires { first < length sources.now }
+    ensures { MatchOption result (NoneBehind sources.now first (length sources.now)) (λ second. (first < second) × (second < length sources.now) × Clash (source_at sources.now first) (source_at sources.now second) × NoneBehind sources.now first second) }
+{
+    let start = first + 1;
+    let behind = first_against(&sources[first], &sources[start..])?;
+    Some(start + behind)
 }
 
 // The places of two sources that clash.
 fn first_clash(sources: &[Listed]) -> Option<(usize, usize)>
     ensures { MatchOption result (Apart sources.now) (λ p. FirstClash sources.now p.0 p.1) }
 {
-    for (i, source) in sources.iter().enumerate() {
-        match first_against(*source, &sources[i + 1..]) {
-            Some(k) => return Some((i, i + 1 + k)),
-            None => continue,
-        }
-    }
-    None
+    sources.iter().enumerate().find_map(|(first, _)| {
+        let second = clash_behind(sources, first)?;
+        Some((first, second))
+    })
 }
 
 impl Opening<'_> {
@@ -70,13 +67,12 @@ impl Opening<'_> {
         if self.sources.len() > Self::MOST_SOURCES {
             return Some(OpeningFault::TooMany);
         }
-        if let Some(place) = first_out_of_range(self.sources) {
-            return Some(OpeningFault::OutOfRange(place));
-        }
-        if let Some((first, second)) = first_clash(self.sources) {
-            return Some(OpeningFault::Clashing(first, second));
-        }
-        None
+        first_out_of_range(self.sources)
+            .map(OpeningFault::OutOfRange)
+            .or_else(|| {
+                let (first, second) = first_clash(self.sources)?;
+                Some(OpeningFault::Clashing(first, second))
+            })
     }
 
     // Whether a book may be opened with the list.
