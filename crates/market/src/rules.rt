@@ -117,7 +117,7 @@ fn check_fields(combination: &Combination) -> Result<(), CombinationRule>
         Err(CombinationRule::ConfigurationRange)
     } else if !(1..=MAXIMUM_CLASS).contains(&combination.class) {
         Err(CombinationRule::ClassRange)
-    } else if Group::from_letter(combination.group).is_none() {
+    } else if Group::try_from(combination.group).is_err() {
         Err(CombinationRule::GroupRange)
     } else if !is_day(combination.first) {
         Err(CombinationRule::FirstDayRange)
