@@ -6,7 +6,8 @@ ghost use Rattle.fields.specs.Padding.{Padded};
 
 // What a metering system consumes in a year, in tenths of a kWh, for each of at most four
 // time pattern regimes. Entries behind the first `count` are zero, always: nothing of a
-// longer set is left behind a shorter one.
+// longer set is left behind a shorter one. Fixed arrays with a count, since nothing here allocates;
+// two of them, and not one of pairs, since the regimes are lent as a slice.
 #[derive(Clone, Copy)]
 pub struct ConsumptionSet {
     count: usize,

@@ -39,6 +39,7 @@ pub struct Appointment {
     pub end: u16,
 }
 
+// Spans say their days alike, each of its own fields: no shorter form reads the fields of both.
 impl Dated for Appointment {
     ghost start_of = { λ row. row.start };
 

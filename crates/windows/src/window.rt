@@ -9,7 +9,7 @@ use rows::kept::{Kept, STATE_MAXIMUM};
 use rows::row::{Advance, Appointment, Estimate, State};
 use std::alloc::AllocError;
 
-// The first `count` of the places have a row.
+// The first `count` of the places have a row; fixed places with a count, since nothing here allocates.
 pub struct Window<T, const MAX: usize> {
     count: usize,
     rows: [T; MAX],
@@ -17,6 +17,7 @@ pub struct Window<T, const MAX: usize> {
     ghost within: { count ≤ MAX },
 }
 
+// By hand: a generic struct with ghost fields derives neither.
 impl<T: Copy, const MAX: usize> Clone for Window<T, MAX> {
     ghost is_clone = { λ x y. y ≡ x };
 

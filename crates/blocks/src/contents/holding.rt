@@ -1,4 +1,5 @@
-// The rows of a folder, by kind.
+// The rows of a folder, by kind. Each window is of a type of its own, so each method names all ten:
+// one that chose a window by its kind would have to hand out a dyn value.
 ghost use Rattle.std.specs.Prelude.{◌≡◌, length, if◌then◌else◌};
 ghost use Rattle.std.specs.List.{slice_get};
 ghost use Rattle.register.specs.Folders.{no_rows};
