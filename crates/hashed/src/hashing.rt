@@ -6,6 +6,9 @@ ghost use Rattle.hashed.specs.Table.{folders_of, links_of, held_in, Sound};
 
 use blocks::block::Block;
 
+// The first blocks are used, each with its folder. A head leads to the newest block of its chain, and a
+// block's link to the one before. The order lists the places of the used blocks by their pairs. Places in
+// lent memory stand for references and maps, since nothing here allocates.
 #[derive(Drop)]
 pub struct Hashed<'a> {
     heads: &'a mut [Option<u32>],
