@@ -153,7 +153,7 @@ pub struct CauseWords(pub Cause);
 
 impl fmt::Display for CauseWords {
     fn fmt<W: fmt::Write>(&self, f: &mut fmt::Formatter<W>) -> fmt::Result {
-        let number = self.0.number();
+        let number = u8::from(self.0);
         let words = match self.0 {
             Cause::UnknownLetter => "unknown letter",
             Cause::CutShort => "cut short",
