@@ -2,8 +2,7 @@
 ghost use Rattle.std.specs.Prelude.{◌≡◌, ℕ, ◌≤◌, ◌&&◌, Some, None, MatchResult};
 ghost use Rattle.instructions.specs.Faults.{in_file};
 ghost use Rattle.instructions.specs.Files.{onward};
-ghost use Rattle.instructions.specs.Stages.{follows, order_of, regimes_ascend, from_within, within, between};
-ghost use Rattle.instructions.specs.Turns.{stage_of};
+ghost use Rattle.instructions.specs.Stages.{follows, order_of, regimes_ascend, within, between};
 
 use crate::faults::InstructionFault;
 use crate::reader::Reader;
@@ -44,27 +43,6 @@ fn is_in_place(before: Option<(Kind, u16)>, row: &Row) -> bool
     is_behind(before, row.kind(), row.start()) && regimes_ascend(row)
 }
 
-// What a command does inside an instruction.
-#[derive(Clone, Copy)]
-pub(crate) enum Turn {
-    // one record more, of this kind and start
-    Record((Kind, u16)),
-    // the instruction ends
-    End,
-    // the command is out of place
-    Misplaced,
-}
-
-fn turn_by(before: Option<(Kind, u16)>, command: &Command) -> Turn
-    ensures { (left : ℕ) → from_within left before command.now ≡ stage_of left result }
-{
-    match command {
-        Command::Record(row) if is_in_place(before, row) => Turn::Record((row.kind(), row.start())),
-        Command::InstructionEnd => Turn::End,
-        _ => Turn::Misplaced,
-    }
-}
-
 // Reads the records of an instruction, up to and with its end.
 pub(crate) fn read_instruction(reader: &mut Reader<'_>) -> Result<(), InstructionFault>
     ensures value { (left : ℕ) → MatchResult result (λ _. onward reader.old.bytes.now reader.old.at (within left None) ≡ onward reader.old.bytes.now reader.new.at (between left)) (λ fault. onward reader.old.bytes.now reader.old.at (within left None) ≡ Some (in_file fault)) }
@@ -73,17 +51,19 @@ pub(crate) fn read_instruction(reader: &mut Reader<'_>) -> Result<(), Instructio
 {
     let mut before = None;
     loop {
-        let place = reader.at;
-        let command = reader.command()?;
-        match turn_by(before, &command) {
-            Turn::Record(order) => before = Some(order),
-            Turn::End => return Ok(()),
-            Turn::Misplaced => {
-                return Err(InstructionFault {
-                    cause: Cause::OutOfPlace,
-                    place,
-                });
+        let misplaced = InstructionFault {
+            cause: Cause::OutOfPlace,
+            place: reader.at,
+        };
+        match reader.command()? {
+            Command::Record(row) => {
+                if !is_in_place(before, &row) {
+                    return Err(misplaced);
+                }
+                before = Some((row.kind(), row.start()));
             }
+            Command::InstructionEnd => return Ok(()),
+            _ => return Err(misplaced),
         }
     }
 }
