@@ -7,3 +7,4 @@ pub mod command;
 pub mod reading;
 mod records;
 pub mod source;
+mod words;

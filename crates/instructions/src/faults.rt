@@ -1,9 +1,11 @@
 // Why a file cannot be read, and where. Each layer of reading has a fault of its own; a fault
 // that comes from below keeps its cause and its place.
-ghost use Rattle.std.specs.Prelude.{◌≡◌};
-ghost use Rattle.instructions.specs.Faults.{in_instruction, in_file, out_of_place};
+// Kept as three structs: conversions of one generic struct would overlap `From<T> for T`.
+ghost use Rattle.std.specs.Prelude.{◌≡◌, Some};
+ghost use Rattle.instructions.specs.Faults.{in_instruction, in_file, out_of_place, fault_words};
 
 use commands::causes::Cause;
+use std::fmt;
 
 // A command by itself cannot be read.
 #[derive(Clone, Copy, PartialEq, Eq)]
@@ -66,5 +68,14 @@ impl FileFault {
             cause: Cause::OutOfPlace,
             place,
         }
+    }
+}
+
+impl fmt::Display for FileFault {
+    ghost output = { λ fault. Some (fault_words fault) };
+
+    fn fmt<W: fmt::Write>(&self, f: &mut fmt::Formatter<W>) -> fmt::Result {
+        let FileFault { cause, place } = *self;
+        write!(f, "{cause}, at offset {place}")
     }
 }
