@@ -1,20 +1,21 @@
 -- What it takes for each step of reading to answer something.
 use Rattle.std.proofs.Common.{◌≡◌, ℕ, ◌≤◌, Bool, true, false, cond, leb, List, length, Some, None, Ok, Err, Option, Result, refl}
+use Rattle.std.specs.Bool.{then_some}
 use Rattle.std.specs.Option.{option_map}
 use Rattle.std.proofs.lemmas.Bool.{leb-true}
 use Rattle.commands.specs.declared.command.Command.{Command}
 use Rattle.commands.specs.declared.causes.Cause.{Cause}
 use Rattle.commands.specs.declared.causes.Cause.TheVariants.{CutShort}
-use Rattle.commands.specs.Records.{given, made}
+use Rattle.commands.specs.Records.{made}
 use Rattle.commands.specs.Commands.{whole, ranged, commanded}
 
-pub given_some : {X : Type 0} (b : Bool) (x y : X) → given b x ≡ Some y → (b ≡ true) × (x ≡ y)
-given_some true x y e = (refl, (cc))
-given_some false x y e = absurd (cc)
+pub then_some_inv : {X : Type 0} (b : Bool) (x y : X) → then_some b x ≡ Some y → (b ≡ true) × (x ≡ y)
+then_some_inv true x y e = (refl, (cc))
+then_some_inv false x y e = absurd (cc)
 
 pub made_some : {X Y : Type 0} (b : Bool) (f : X → Y) (o : Option X) (y : Y) → made b f o ≡ Some y → (x : X) × (o ≡ Some x) × (b ≡ true) × (f x ≡ y)
 made_some b f None y e = absurd (cc)
-made_some b f (Some x) y e = let g = given_some b (f x) y e in (x, refl, g.0, g.1)
+made_some b f (Some x) y e = let g = then_some_inv b (f x) y e in (x, refl, g.0, g.1)
 
 pub ranged_ok : {X : Type 0} (o : Option X) (x : X) → ranged o ≡ Ok x → o ≡ Some x
 ranged_ok None x e = absurd (cc)

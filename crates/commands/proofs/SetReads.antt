@@ -1,5 +1,6 @@
 -- Reading the regimes of a consumption set one by one.
 use Rattle.std.proofs.Common.{◌≡◌, ℕ, zero, suc, ◌+◌, ◌-◌, ◌*◌, ◌<◌, ◌≤◌, Bool, true, false, cond, leb, List, [], ℤ, length, get_or, take, drop, Some, None, Ok, Err, Option, Result, sym, refl, ap, ◌∙◌, add-zero, add-suc, add-one, w32, to_z, arith}
+use Rattle.std.specs.Bool.{then_some}
 use Rattle.std.specs.Simd.{first_chunks}
 use Rattle.std.proofs.lemmas.Bool.{le-leb, cond-true}
 use Rattle.std.proofs.lemmas.Bool.Decides.{nat_tests}
@@ -11,7 +12,7 @@ use Rattle.commands.specs.declared.causes.Cause.TheVariants.{CutShort, OutOfRang
 use Rattle.commands.specs.Commands.{whole, ranged, sought, listed}
 use Rattle.commands.specs.Numbers.{byte, word, long, signed}
 use Rattle.commands.specs.Ranges.{is_reading, is_set_size}
-use Rattle.commands.specs.Records.{given, made, with_regime, sets}
+use Rattle.commands.specs.Records.{made, with_regime, sets}
 
 chunk_there : (m k : ℕ) (xs : List ℕ) → k < m → get_or (first_chunks 6 m xs) k [] ≡ take 6 (drop (6 * k) xs)
 chunk_there zero k xs h = absurd (omega arith)
@@ -50,13 +51,13 @@ none_on : (k m : ℕ) (xs : List ℕ) (i : ℕ) → sets k xs i ≡ None → set
 none_on k zero xs i e = rw add-zero e
 none_on k (suc m) xs i e = rw add-suc (ap (λ o. with_regime o (word xs (i + 6 * (k + m))) (signed xs (i + 6 * (k + m) + 2))) (none_on k m xs i e))
 
-given_ok : {X : Type 0} (b : Bool) (x y : X) → ◌≡◌ {A = Result X Cause} (Ok y) (ranged (given b x)) → (b ≡ true) × (y ≡ x)
-given_ok true x y e = (refl, (cc))
-given_ok false x y e = absurd (cc)
+then_some_ok : {X : Type 0} (b : Bool) (x y : X) → ◌≡◌ {A = Result X Cause} (Ok y) (ranged (then_some b x)) → (b ≡ true) × (y ≡ x)
+then_some_ok true x y e = (refl, (cc))
+then_some_ok false x y e = absurd (cc)
 
-given_err : {X : Type 0} (b : Bool) (x : X) (cause : Cause) → ◌≡◌ {A = Result X Cause} (Err cause) (ranged (given b x)) → (b ≡ false) × (cause ≡ OutOfRange)
-given_err true x cause e = absurd (cc)
-given_err false x cause e = (refl, (cc))
+then_some_err : {X : Type 0} (b : Bool) (x : X) (cause : Cause) → ◌≡◌ {A = Result X Cause} (Err cause) (ranged (then_some b x)) → (b ≡ false) × (cause ≡ OutOfRange)
+then_some_err true x cause e = absurd (cc)
+then_some_err false x cause e = (refl, (cc))
 
 -- the regimes as they are read: six bytes each, the first n of m
 module _ (n m k : ℕ) (xs : List ℕ) (regimes : List (List ℕ)) (all : regimes ≡ take n (first_chunks 6 m xs)) (h : k < n) (enough : n ≤ m) where
@@ -75,26 +76,26 @@ module _ (n m k : ℕ) (xs : List ℕ) (regimes : List (List ℕ)) (all : regime
   in_range = is_reading (word next 0) (signed next 2)
 
   module _ (s : ConsumptionSet) (e : sets k xs 0 ≡ Some s) where
-    step : sets (k + 1) xs 0 ≡ given in_range (pushed s (word next 0) (signed next 2))
+    step : sets (k + 1) xs 0 ≡ then_some in_range (pushed s (word next 0) (signed next 2))
     step =
         ap (λ j. sets j xs 0) (add-one k)
         ∙ ap (λ o. with_regime o (word xs (0 + 6 * k)) (signed xs (0 + 6 * k + 2))) e
         ∙ sym (ap (λ w. with_regime (Some s) w (signed xs (0 + 6 * k + 2))) (regime_same next xs 0 (0 + 6 * k) next_byte))
         ∙ sym (ap (with_regime (Some s) (word next 0)) (value_same next xs 0 (0 + 6 * k) next_byte))
 
-    pub regime_more : (regime : ℕ) (value : ℤ) → ◌≡◌ {A = Result (ℕ × ℤ) Cause} (Ok (regime, value)) (ranged (given in_range (word next 0, signed next 2))) → sets (k + 1) xs 0 ≡ Some (pushed s regime value)
+    pub regime_more : (regime : ℕ) (value : ℤ) → ◌≡◌ {A = Result (ℕ × ℤ) Cause} (Ok (regime, value)) (ranged (then_some in_range (word next 0, signed next 2))) → sets (k + 1) xs 0 ≡ Some (pushed s regime value)
     regime_more regime value r =
-        let g = given_ok in_range (word next 0, signed next 2) (regime, value) r in
+        let g = then_some_ok in_range (word next 0, signed next 2) (regime, value) r in
         step
-        ∙ ap (λ b. given b (pushed s (word next 0) (signed next 2))) g.0
+        ∙ ap (λ b. then_some b (pushed s (word next 0) (signed next 2))) g.0
         ∙ sym (ap (λ (p : ℕ × ℤ). Some (pushed s p.0 p.1)) g.1)
 
     -- a regime out of range leaves no set, however many follow
-    pub regime_stop : (cause : Cause) → ◌≡◌ {A = Result (ℕ × ℤ) Cause} (Err cause) (ranged (given in_range (word next 0, signed next 2))) → (cause ≡ OutOfRange) × (sets n xs 0 ≡ None)
+    pub regime_stop : (cause : Cause) → ◌≡◌ {A = Result (ℕ × ℤ) Cause} (Err cause) (ranged (then_some in_range (word next 0, signed next 2))) → (cause ≡ OutOfRange) × (sets n xs 0 ≡ None)
     regime_stop cause r =
-        let g = given_err in_range (word next 0, signed next 2) cause r in
+        let g = then_some_err in_range (word next 0, signed next 2) cause r in
         let j : (k + 1) + (n - (k + 1)) ≡ n = omega arith in
-        (g.1, sym (ap (λ i. sets i xs 0) j) ∙ none_on (k + 1) (n - (k + 1)) xs 0 (step ∙ ap (λ b. given b (pushed s (word next 0) (signed next 2))) g.0))
+        (g.1, sym (ap (λ i. sets i xs 0) j) ∙ none_on (k + 1) (n - (k + 1)) xs 0 (step ∙ ap (λ b. then_some b (pushed s (word next 0) (signed next 2))) g.0))
 
 leb_less : (a b at : ℕ) → at ≤ b → leb (0 + a) (b - at) ≡ leb (at + a) b
 leb_less a b at h = grind (arith, nat_tests)
@@ -109,7 +110,7 @@ set_behind n at xs h =
 listed_made : {X Y : Type 0} (b : Bool) (f : X → Y) (t : Result (Unit {0}) Cause) (o : Option X) (x : X) → Ok x ≡ listed t o → b ≡ true → listed t (made b f o) ≡ Ok (f x)
 listed_made b f (Err d) o x e h = absurd (cc)
 listed_made b f (Ok t) None x e h = absurd (cc)
-listed_made b f (Ok t) (Some y) x e h = ap (λ c. ranged (given c (f y))) h ∙ (cc)
+listed_made b f (Ok t) (Some y) x e h = ap (λ c. ranged (then_some c (f y))) h ∙ (cc)
 
 listed_unmade : {X Y : Type 0} (b : Bool) (f : X → Y) (t : Result (Unit {0}) Cause) (o : Option X) (cause : Cause) → Err cause ≡ listed t o → listed t (made b f o) ≡ Err cause
 listed_unmade b f (Err d) o cause e = cc

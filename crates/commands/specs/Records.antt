@@ -1,5 +1,6 @@
 -- What the operands behind a letter say, if each is in its range.
 use Rattle.std.specs.Prelude.{ℕ, zero, suc, ◌+◌, ◌*◌, Bool, cond, ◌&&◌, List, ℤ, Some, None, Option, ◌==◌}
+use Rattle.std.specs.Bool.{then_some}
 use Rattle.fields.specs.Codes.{letter}
 use Rattle.fields.specs.Days.{is_day}
 use Rattle.fields.specs.Groups.{group_of}
@@ -25,14 +26,10 @@ use Rattle.commands.specs.declared.command.Heading.{Heading}
 use Rattle.commands.specs.Numbers.{byte, word, long, huge, signed}
 use Rattle.commands.specs.Ranges.{is_id, is_number, is_count, is_system, is_end, is_profile_class, is_line_loss_class, is_reading}
 
--- something, where a test holds
-abbrev pub given : {X : Type 0} → Bool → X → Option X
-given test x = cond test (Some x) None
-
 -- what is made of something, if it is there and a test holds
 abbrev pub made : {X Y : Type 0} → Bool → (X → Y) → Option X → Option Y
 made test f None = None
-made test f (Some x) = given test (f x)
+made test f (Some x) = then_some test (f x)
 
 -- S with its id is an agent, C with its id a collector
 abbrev pub source_of : ℕ → ℕ → Option Source
@@ -48,21 +45,21 @@ header xs =
 -- I: system 8, number 4, significant day 2
 abbrev pub heading : List ℕ → Option Heading
 heading xs =
-    given (is_system (huge xs 0) && is_number (long xs 8) && is_day (word xs 12))
+    then_some (is_system (huge xs 0) && is_number (long xs 8) && is_day (word xs 12))
     (record { system = huge xs 0; number = long xs 8; day = word xs 12 })
 
 -- what a state row says behind its start
 -- R: supplier 2
 abbrev pub supplier : List ℕ → Option Supplier
-supplier xs = given (is_id (word xs 2)) (record { id = word xs 2 })
+supplier xs = then_some (is_id (word xs 2)) (record { id = word xs 2 })
 
 -- K: collector 2
 abbrev pub collector : List ℕ → Option Collector
-collector xs = given (is_id (word xs 2)) (record { id = word xs 2 })
+collector xs = then_some (is_id (word xs 2)) (record { id = word xs 2 })
 
 -- P: class 1, configuration 2
 abbrev pub profile : List ℕ → Option Profile
-profile xs = given (is_profile_class (byte xs 2) && is_id (word xs 3)) (record { class = byte xs 2; configuration = word xs 3 })
+profile xs = then_some (is_profile_class (byte xs 2) && is_id (word xs 3)) (record { class = byte xs 2; configuration = word xs 3 })
 
 -- M: letter 1
 abbrev pub measurement : List ℕ → Option MeasurementClass
@@ -74,7 +71,7 @@ energisation xs = status_of (byte xs 2)
 
 -- L: class 2
 abbrev pub line_loss : List ℕ → Option LineLossClass
-line_loss xs = given (is_line_loss_class (word xs 2)) (record { number = word xs 2 })
+line_loss xs = then_some (is_line_loss_class (word xs 2)) (record { number = word xs 2 })
 
 -- G: letter 1
 abbrev pub group : List ℕ → Option Group
@@ -86,7 +83,7 @@ state said xs = made (is_day (word xs 0)) (λ v. record { start = word xs 0; val
 
 -- A: start 2, end 2
 abbrev pub appointment : List ℕ → Option Appointment
-appointment xs = given (is_day (word xs 0) && is_end (word xs 2)) (record { start = word xs 0; end = word xs 2 })
+appointment xs = then_some (is_day (word xs 0) && is_end (word xs 2)) (record { start = word xs 0; end = word xs 2 })
 
 -- one regime more in a set, if regime and value are in range
 abbrev pub with_regime : Option ConsumptionSet → ℕ → ℤ → Option ConsumptionSet

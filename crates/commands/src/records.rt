@@ -1,10 +1,11 @@
 // What the operands behind a command's letter say, if they are there and each is in its range.
 ghost use Rattle.std.specs.Prelude.{◌≡◌, ℕ, ◌≤◌, List, Ok, Option};
+ghost use Rattle.std.specs.Bool.{then_some};
 ghost use Rattle.std.proofs.Common.{arith};
 ghost use Rattle.commands.specs.Commands.{whole, ranged, sought, listed};
 ghost use Rattle.commands.specs.Numbers.{byte, word, signed};
 ghost use Rattle.commands.specs.Ranges.{is_id, is_reading};
-ghost use Rattle.commands.specs.Records.{given, header, heading, supplier, collector, profile, measurement, energisation, line_loss, group, state, appointment, source_of, sets, advance, estimate};
+ghost use Rattle.commands.specs.Records.{header, heading, supplier, collector, profile, measurement, energisation, line_loss, group, state, appointment, source_of, sets, advance, estimate};
 
 use crate::causes::Cause;
 use crate::command::{Header, Heading, Source};
@@ -92,7 +93,7 @@ pub(crate) trait Stated: Copy {
 
 // An id behind a start.
 fn read_id(operands: &[u8]) -> Result<u16, Cause>
-    ensures { result ≡ whole 4 operands.now (ranged (given (is_id (word operands.now 2)) (word operands.now 2))) }
+    ensures { result ≡ whole 4 operands.now (ranged (then_some (is_id (word operands.now 2)) (word operands.now 2))) }
 {
     let [_, _, i0, i1, ..] = *operands else {
         return Err(Cause::CutShort);
@@ -251,7 +252,7 @@ pub(crate) fn read_appointment(operands: &[u8]) -> Result<Appointment, Cause>
 
 // A regime with its value.
 fn read_regime(operands: &[u8; 6]) -> Result<(u16, i32), Cause>
-    ensures { result ≡ ranged (given (is_reading (word operands.now 0) (signed operands.now 2)) (word operands.now 0, signed operands.now 2)) }
+    ensures { result ≡ ranged (then_some (is_reading (word operands.now 0) (signed operands.now 2)) (word operands.now 0, signed operands.now 2)) }
 {
     let [r0, r1, v0, v1, v2, v3] = *operands;
     let regime = u16::from_be_bytes([r0, r1]);

@@ -24,12 +24,12 @@ use Rattle.commands.specs.Records.{made, supplier, collector, profile, measureme
 use Rattle.format.specs.WellFormed.{Between, Day, End, RowInRange, SetInRange}
 use Rattle.format.specs.Written.{word_bytes, reading_bytes, row_bytes}
 use Rattle.commands.proofs.Widths.{listed_ok}
-use Rattle.commands.proofs.Inversions.{given_some, made_some, mapped_ok, whole_ok, cond_ok}
+use Rattle.commands.proofs.Inversions.{then_some_inv, made_some, mapped_ok, whole_ok, cond_ok}
 use Rattle.format.proofs.Letters.{class_back, status_back, group_back, class_letter_lem, status_letter_lem, group_letter_lem}
 use Rattle.format.proofs.NumberBytes.{word_of, word_at, byte_at, word_below}
 use Rattle.format.proofs.RangeTests.{between_passes, between_holds, id_holds}
 use Rattle.format.proofs.SetBytes.{set_read, set_written, set_length}
-use Rattle.format.proofs.Steps.{given_is, made_is, whole_is}
+use Rattle.format.proofs.Steps.{then_some_is, made_is, whole_is}
 
 dated : (start : ℕ) (b : Bool) → Day start → b ≡ true → (is_day start && b) ≡ true
 dated start b d t = and_from (is_day start) b (between_passes 1 60000 start d) t
@@ -61,19 +61,19 @@ pub row_written : (r : Row) (rest : List ℕ) → RowInRange r → record_of (ki
 row_written (Registration r) rest (d, i) =
     let xs = row_bytes (Registration r) ++ rest in
     fixed xs 4 _ (Registration r) (omega arith)
-    (ap (option_map (λ s. Registration s)) (state_is supplier xs r.start r.value d (word_of r.start) (simp word_of (given_is _ r.value (le-leb 1 r.value.id i.0)))))
+    (ap (option_map (λ s. Registration s)) (state_is supplier xs r.start r.value d (word_of r.start) (simp word_of (then_some_is _ r.value (le-leb 1 r.value.id i.0)))))
 row_written (Appointment r) rest (d, e) =
     let xs = row_bytes (Appointment r) ++ rest in
     fixed xs 4 _ (Appointment r) (omega arith)
-    (let read : appointment xs ≡ Some r = simp word_of (given_is _ r (dated r.start (is_end r.end) d (le-leb r.end 60000 e))) in ap (option_map (λ s. Appointment s)) read)
+    (let read : appointment xs ≡ Some r = simp word_of (then_some_is _ r (dated r.start (is_end r.end) d (le-leb r.end 60000 e))) in ap (option_map (λ s. Appointment s)) read)
 row_written (Collector r) rest (d, i) =
     let xs = row_bytes (Collector r) ++ rest in
     fixed xs 4 _ (Collector r) (omega arith)
-    (ap (option_map (λ s. Collector s)) (state_is collector xs r.start r.value d (word_of r.start) (simp word_of (given_is _ r.value (le-leb 1 r.value.id i.0)))))
+    (ap (option_map (λ s. Collector s)) (state_is collector xs r.start r.value d (word_of r.start) (simp word_of (then_some_is _ r.value (le-leb 1 r.value.id i.0)))))
 row_written (Profile r) rest (d, c, i) =
     let xs = row_bytes (Profile r) ++ rest in
     fixed xs 5 _ (Profile r) (omega arith)
-    (ap (option_map (λ s. Profile s)) (state_is profile xs r.start r.value d (word_of r.start) (simp word_of (given_is _ r.value (and_from (is_profile_class r.value.class) (is_id r.value.configuration) (between_passes 1 16 r.value.class c) (le-leb 1 r.value.configuration i.0))))))
+    (ap (option_map (λ s. Profile s)) (state_is profile xs r.start r.value d (word_of r.start) (simp word_of (then_some_is _ r.value (and_from (is_profile_class r.value.class) (is_id r.value.configuration) (between_passes 1 16 r.value.class c) (le-leb 1 r.value.configuration i.0))))))
 row_written (Measurement r) rest d =
     let xs = row_bytes (Measurement r) ++ rest in
     fixed xs 3 _ (Measurement r) (omega arith)
@@ -85,7 +85,7 @@ row_written (Energisation r) rest d =
 row_written (LineLoss r) rest (d, n) =
     let xs = row_bytes (LineLoss r) ++ rest in
     fixed xs 4 _ (LineLoss r) (omega arith)
-    (ap (option_map (λ s. LineLoss s)) (state_is line_loss xs r.start r.value d (word_of r.start) (simp word_of (given_is _ r.value (le-leb r.value.number 999 n)))))
+    (ap (option_map (λ s. LineLoss s)) (state_is line_loss xs r.start r.value d (word_of r.start) (simp word_of (then_some_is _ r.value (le-leb r.value.number 999 n)))))
 row_written (Group r) rest d =
     let xs = row_bytes (Group r) ++ rest in
     fixed xs 3 _ (Group r) (omega arith)
@@ -164,25 +164,25 @@ pub row_read : (k : Kind) (xs : List ℕ) (r : Row) → Bytes xs → record_of k
 row_read kind.Registration xs r b e =
     let w = stating xs 4 (λ s. Registration s) supplier r e in
     let s = w.1 in
-    let g = given_some (is_id (word xs 2)) _ s.0 s.1 in
+    let g = then_some_inv (is_id (word xs 2)) _ s.0 s.1 in
     subst (RowRead kind.Registration xs) (ap (λ v. Registration (record { start = word xs 0; value = v })) g.1 ∙ s.3)
     (record { kind = refl; range = (s.2, id_holds (word xs 2) (word_below xs b 2 w.0) g.0); long = w.0; bytes = two_words xs b w.0 })
 row_read kind.Appointment xs r b e =
     let w = plain xs 4 (λ a. Appointment a) _ r e in
-    let g = given_some (is_day (word xs 0) && is_end (word xs 2)) _ w.1.0 w.1.1 in
+    let g = then_some_inv (is_day (word xs 0) && is_end (word xs 2)) _ w.1.0 w.1.1 in
     let t = and_parts (is_day (word xs 0)) (is_end (word xs 2)) g.0 in
     subst (RowRead kind.Appointment xs) (ap (λ a. Appointment a) g.1 ∙ w.1.2)
     (record { kind = refl; range = (between_holds 1 60000 (word xs 0) t.0, leb-true (word xs 2) 60000 t.1); long = w.0; bytes = two_words xs b w.0 })
 row_read kind.Collector xs r b e =
     let w = stating xs 4 (λ s. Collector s) collector r e in
     let s = w.1 in
-    let g = given_some (is_id (word xs 2)) _ s.0 s.1 in
+    let g = then_some_inv (is_id (word xs 2)) _ s.0 s.1 in
     subst (RowRead kind.Collector xs) (ap (λ v. Collector (record { start = word xs 0; value = v })) g.1 ∙ s.3)
     (record { kind = refl; range = (s.2, id_holds (word xs 2) (word_below xs b 2 w.0) g.0); long = w.0; bytes = two_words xs b w.0 })
 row_read kind.Profile xs r b e =
     let w = stating xs 5 (λ s. Profile s) profile r e in
     let s = w.1 in
-    let g = given_some (is_profile_class (byte xs 2) && is_id (word xs 3)) _ s.0 s.1 in
+    let g = then_some_inv (is_profile_class (byte xs 2) && is_id (word xs 3)) _ s.0 s.1 in
     let t = and_parts (is_profile_class (byte xs 2)) (is_id (word xs 3)) g.0 in
     subst (RowRead kind.Profile xs) (ap (λ v. Profile (record { start = word xs 0; value = v })) g.1 ∙ s.3)
     (record {
@@ -204,7 +204,7 @@ row_read kind.Energisation xs r b e =
 row_read kind.LineLoss xs r b e =
     let w = stating xs 4 (λ s. LineLoss s) line_loss r e in
     let s = w.1 in
-    let g = given_some (is_line_loss_class (word xs 2)) _ s.0 s.1 in
+    let g = then_some_inv (is_line_loss_class (word xs 2)) _ s.0 s.1 in
     subst (RowRead kind.LineLoss xs) (ap (λ v. LineLoss (record { start = word xs 0; value = v })) g.1 ∙ s.3)
     (record { kind = refl; range = (s.2, leb-true (word xs 2) 999 g.0); long = w.0; bytes = two_words xs b w.0 })
 row_read kind.Group xs r b e =
