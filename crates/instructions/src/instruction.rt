@@ -13,18 +13,6 @@ use rows::dated::Dated;
 use rows::kinds::Kind;
 use rows::row::Row;
 
-// Whether records ascend from one to the next: by kind, and in a kind by start.
-fn is_behind(before: Option<(Kind, u16)>, kind: Kind, start: u16) -> bool
-    ensures { result ≡ follows before (kind, start) }
-{
-    match before {
-        None => true,
-        Some((earlier, day)) => {
-            earlier.rank() < kind.rank() || earlier.rank() == kind.rank() && day < start
-        }
-    }
-}
-
 // Whether the regimes of a row's consumption set ascend.
 fn regimes_ascend(row: &Row) -> bool
     ensures { result ≡ regimes_ascend row.now }
@@ -36,11 +24,11 @@ fn regimes_ascend(row: &Row) -> bool
     }
 }
 
-// Whether a record may stand here.
+// Whether a record may stand here: records ascend by kind, and in a kind by start.
 fn is_in_place(before: Option<(Kind, u16)>, row: &Row) -> bool
     ensures { result ≡ (follows before (order_of row.now) && regimes_ascend row.now) }
 {
-    is_behind(before, row.kind(), row.start()) && regimes_ascend(row)
+    before < Some((row.kind(), row.start())) && regimes_ascend(row)
 }
 
 // Reads the records of an instruction, up to and with its end.

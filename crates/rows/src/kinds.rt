@@ -3,7 +3,7 @@ ghost use Rattle.std.specs.Prelude.{◌≡◌, Some};
 ghost use Rattle.rows.specs.Kinds.{letter_of, kind_of, rank_of};
 
 // A kind of row. The order is the one in which files carry records and folders keep rows.
-#[derive(Clone, Copy, PartialEq)]
+#[derive(Clone, Copy, PartialEq, Eq, PartialOrd, Ord)]
 pub enum Kind {
     // R: which supplier a metering system is registered to
     Registration,
