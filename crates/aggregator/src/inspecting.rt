@@ -1,5 +1,5 @@
 // Explains one instruction file: what it says command by command, or its first fault.
-use crate::words::{CauseWords, HeaderWords, HeadingWords, RowWords, SourceWords};
+use crate::words::RowWords;
 use commands::command::Command;
 use commands::source::source_of;
 use format::read_file;
@@ -10,56 +10,48 @@ use std::io;
 
 // One line: where a command stands, its letter, and what it says.
 fn print_heading(rt: &HostRuntime, length: usize, change: &Change<'_>) -> io::Result<()> {
-    let width = Command::Instruction(change.heading).width();
+    let heading = change.heading;
     let place = length
         .saturating_sub(change.records.left())
-        .saturating_sub(width);
-    let heading = HeadingWords(change.heading);
+        .saturating_sub(Command::Instruction(heading).width());
     println!(rt; "  {place:>6}  I  {heading}")
 }
 
-// The records of an instruction, a line each; how many there are.
-fn print_records(rt: &HostRuntime, length: usize, change: &Change<'_>) -> io::Result<usize> {
-    let mut records = change.records;
-    let mut count = 0usize;
-    loop {
-        let place = length.saturating_sub(records.left());
-        let Some(row) = records.next() else {
-            return Ok(count);
-        };
-        let letter = row.kind().letter();
+// The records of an instruction, a line each.
+fn print_records(rt: &HostRuntime, length: usize, change: &Change<'_>) -> io::Result<()> {
+    let mut place = length.saturating_sub(change.records.left());
+    for row in change.records {
+        let letter = char::from(row.kind());
         let words = RowWords(row);
         println!(rt; "  {place:>6}  {letter}  {words}")?;
-        count = count.saturating_add(1);
+        place = place.saturating_add(Command::Record(row).width());
     }
+    Ok(())
 }
 
 fn print_file(rt: &HostRuntime, name: &str, file: &InstructionFile<'_>) -> io::Result<()> {
     let length = file.len();
-    let header = HeaderWords(file.header());
-    println!(rt; "  {:>6}  H  {header}", 0)?;
-    let mut instructions = 0usize;
-    let mut records = 0usize;
+    println!(rt; "  {:>6}  H  {}", 0, file.header())?;
     for instruction in file.instructions() {
         let Instruction::Change(change) = instruction;
         print_heading(rt, length, &change)?;
-        records = records.saturating_add(print_records(rt, length, &change)?);
-        instructions = instructions.saturating_add(1);
+        print_records(rt, length, &change)?;
     }
+    let instructions = file.instructions().count();
+    let records = file
+        .instructions()
+        .fold(0usize, |sum, Instruction::Change(change)| {
+            sum.saturating_add(change.records.count())
+        });
     println!(rt;
         "{name}: well formed, bytes: {length}, instructions: {instructions}, records: {records}"
     )
 }
 
 fn print_fault(rt: &HostRuntime, name: &str, bytes: &[u8], fault: FileFault) -> io::Result<()> {
-    let cause = CauseWords(fault.cause);
-    let place = fault.place;
     match source_of(bytes) {
-        Some(source) => {
-            let source = SourceWords(source);
-            println!(rt; "{name}: {cause}, at offset {place}; a file of {source}")
-        }
-        None => println!(rt; "{name}: {cause}, at offset {place}; a file of no source"),
+        Some(source) => println!(rt; "{name}: {fault}; a file of {source}"),
+        None => println!(rt; "{name}: {fault}; a file of no source"),
     }
 }
 

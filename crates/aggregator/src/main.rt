@@ -17,7 +17,7 @@ const USAGE: &str = "usage:
   aggregator help             prints this";
 
 // Why the program ends with status 1; what it has to say has been said by then.
-#[derive(Drop)]
+#[derive(Clone, Copy)]
 pub enum Failure {
     Output,
     Memory,
@@ -53,12 +53,11 @@ fn inspect_all(rt: &HostRuntime, names: &[String]) -> Result<(), Failure> {
 }
 
 fn run(rt: &HostRuntime, words: &[String]) -> Result<(), Failure> {
-    if words.is_empty() {
+    let Some((word, names)) = words.split_first() else {
         work_through(rt)?;
         return Ok(());
-    }
-    let names = &words[1..];
-    match words[0].as_str() {
+    };
+    match word.as_str() {
         "inspect" if names.is_empty() => {
             eprintln!(rt; "aggregator: inspect wants at least one file\n{USAGE}")?;
             Err(Failure::Usage)

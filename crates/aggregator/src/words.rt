@@ -1,50 +1,8 @@
-// What headers, instructions, records and faults are in words.
-use commands::causes::Cause;
-use commands::command::{Header, Heading, Source};
+// What records are in words.
 use fields::consumption::ConsumptionSet;
 use fields::letters::Status;
 use rows::row::Row;
 use std::fmt;
-
-// A source by its role and id.
-#[derive(Clone, Copy)]
-pub struct SourceWords(pub Source);
-
-impl fmt::Display for SourceWords {
-    fn fmt<W: fmt::Write>(&self, f: &mut fmt::Formatter<W>) -> fmt::Result {
-        match self.0 {
-            Source::Agent(id) => write!(f, "registration agent {id}"),
-            Source::Collector(id) => write!(f, "data collector {id}"),
-        }
-    }
-}
-
-#[derive(Clone, Copy)]
-pub struct HeaderWords(pub Header);
-
-impl fmt::Display for HeaderWords {
-    fn fmt<W: fmt::Write>(&self, f: &mut fmt::Formatter<W>) -> fmt::Result {
-        let source = SourceWords(self.0.source);
-        let number = self.0.number;
-        let count = self.0.count;
-        write!(f, "file {number} of {source}, instructions: {count}")
-    }
-}
-
-#[derive(Clone, Copy)]
-pub struct HeadingWords(pub Heading);
-
-impl fmt::Display for HeadingWords {
-    fn fmt<W: fmt::Write>(&self, f: &mut fmt::Formatter<W>) -> fmt::Result {
-        let system = self.0.system;
-        let number = self.0.number;
-        let day = self.0.day;
-        write!(
-            f,
-            "instruction {number} for metering system {system}, significant day {day}"
-        )
-    }
-}
 
 // The last day of a span as it was sent.
 #[derive(Clone, Copy)]
@@ -111,7 +69,7 @@ impl fmt::Display for RowWords {
                 )
             }
             Row::Measurement(row) => {
-                let class = row.value.letter();
+                let class = char::from(row.value);
                 let start = row.start;
                 write!(f, "measurement class {class} from day {start}")
             }
@@ -129,7 +87,7 @@ impl fmt::Display for RowWords {
                 write!(f, "line loss class {number} from day {start}")
             }
             Row::Group(row) => {
-                let group = row.value.letter();
+                let group = char::from(row.value);
                 let start = row.start;
                 write!(f, "GSP group {group} from day {start}")
             }
@@ -145,21 +103,5 @@ impl fmt::Display for RowWords {
                 write!(f, "estimate from day {start}{set}")
             }
         }
-    }
-}
-
-#[derive(Clone, Copy)]
-pub struct CauseWords(pub Cause);
-
-impl fmt::Display for CauseWords {
-    fn fmt<W: fmt::Write>(&self, f: &mut fmt::Formatter<W>) -> fmt::Result {
-        let number = self.0.number();
-        let words = match self.0 {
-            Cause::UnknownLetter => "unknown letter",
-            Cause::CutShort => "cut short",
-            Cause::OutOfRange => "operand out of range",
-            Cause::OutOfPlace => "out of place",
-        };
-        write!(f, "cause {number}, {words}")
     }
 }

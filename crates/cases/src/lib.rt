@@ -23,7 +23,7 @@ mod tests {
     fn found(bytes: &[u8]) -> (u8, usize) {
         match read_file(bytes) {
             Ok(_) => (0, 0),
-            Err(fault) => (fault.cause.number(), fault.place),
+            Err(fault) => (u8::from(fault.cause), fault.place),
         }
     }
 

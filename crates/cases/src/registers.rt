@@ -127,10 +127,10 @@ mod tests {
             Row::Appointment(row) => (row.end, 0),
             Row::Collector(row) => (row.value.id, 0),
             Row::Profile(row) => (row.value.configuration, i64::from(row.value.class)),
-            Row::Measurement(row) => (0, i64::from(row.value.letter() as u32)),
-            Row::Energisation(row) => (0, i64::from(row.value.letter() as u32)),
+            Row::Measurement(row) => (0, i64::from(char::from(row.value) as u32)),
+            Row::Energisation(row) => (0, i64::from(char::from(row.value) as u32)),
             Row::LineLoss(row) => (row.value.number, 0),
-            Row::Group(row) => (0, i64::from(row.value.letter() as u32)),
+            Row::Group(row) => (0, i64::from(char::from(row.value) as u32)),
             Row::Advance(row) => (row.end, sum_of(&row.set)),
             Row::Estimate(row) => (0, sum_of(&row.set)),
         }

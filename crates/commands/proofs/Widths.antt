@@ -1,10 +1,7 @@
 -- A command that can be read is there whole.
-use Rattle.std.proofs.Common.{◌≡◌, ℕ, zero, suc, ◌+◌, ◌*◌, ◌<◌, ◌≤◌, Bool, ◌&&◌, leb, List, [], ◌∷◌, length, IfOk, Some, None, Ok, Err, Option, Result, sym, refl, ap, ◌∙◌, subst, arith}
+use Rattle.std.proofs.Common.{◌≡◌, ℕ, zero, suc, ◌+◌, ◌*◌, ◌<◌, ◌≤◌, leb, List, [], ◌∷◌, length, IfOk, Some, None, Ok, Err, Option, Result, sym, refl, ap, ◌∙◌, subst, arith}
+use Rattle.std.specs.Option.{option_map}
 use Rattle.std.proofs.lemmas.Bool.{and_parts, leb-true}
-use Rattle.fields.specs.Days.{is_day}
-use Rattle.fields.specs.Groups.{group_of}
-use Rattle.fields.specs.MeasurementClasses.{class_of}
-use Rattle.fields.specs.Statuses.{status_of}
 use Rattle.fields.specs.Sets.{empty_set}
 use Rattle.rows.specs.Rows.{kind_of_row}
 use Rattle.fields.specs.declared.consumption.ConsumptionSet.{ConsumptionSet}
@@ -22,10 +19,10 @@ use Rattle.commands.specs.declared.command.Letter.TheVariants as announced
 use Rattle.commands.specs.declared.causes.Cause.{Cause}
 use Rattle.commands.specs.declared.causes.Cause.TheVariants.{OutOfRange}
 use Rattle.commands.specs.Numbers.{byte, word, signed}
-use Rattle.commands.specs.Ranges.{is_end, is_set_size}
-use Rattle.commands.specs.Records.{given, made, header, heading, sets, advance, estimate}
+use Rattle.commands.specs.Ranges.{is_set_size}
+use Rattle.commands.specs.Records.{header, heading, supplier, collector, profile, measurement, energisation, line_loss, group, state, appointment, sets, advance, estimate}
 use Rattle.commands.specs.Commands.{ranged, sought, listed, stated, record_of, letter_of, known, behind, command_in, fixed_size, set_size, width_of}
-use Rattle.commands.proofs.Inversions.{given_some, made_some, ranged_ok, cond_ok, whole_ok, commanded_ok}
+use Rattle.commands.proofs.Inversions.{made_some, mapped_ok, cond_ok, whole_ok, commanded_ok}
 
 -- a set of n regimes counts n
 pub sets_count : (n : ℕ) (xs : List ℕ) (i : ℕ) (s : ConsumptionSet) → n ≤ 4 → sets n xs i ≡ Some s → s.count ≡ n
@@ -41,15 +38,12 @@ sets_count (suc n) xs i s h e =
 abbrev size : Row → ℕ
 size r = fixed_size (kind_of_row r) + set_size r
 
-given_size : (b : Bool) (x r : Row) (n : ℕ) → ranged (given b x) ≡ Ok r → size x ≤ n → size r ≤ n
-given_size b x r n e h = subst (λ y. size y ≤ n) (given_some b x r (ranged_ok _ r e)).1 h
+mapped_size : {X : Type 0} (f : X → Row) (o : Option X) (r : Row) (n : ℕ) → ranged (option_map f o) ≡ Ok r → ((x : X) → o ≡ Some x → size (f x) ≤ n) → size r ≤ n
+mapped_size f o r n e h = let m = mapped_ok f o r e in subst (λ y. size y ≤ n) m.2 (h m.0 m.1)
 
-made_size : {X : Type 0} (b : Bool) (f : X → Row) (o : Option X) (r : Row) (n : ℕ) → ranged (made b f o) ≡ Ok r → ((x : X) → o ≡ Some x → size (f x) ≤ n) → size r ≤ n
-made_size b f o r n e h = let m = made_some b f o r (ranged_ok _ r e) in subst (λ y. size y ≤ n) m.3 (h m.0 m.1)
-
-pub listed_ok : (t : Result (Unit {0}) Cause) (o : Option Row) (r : Row) → listed t o ≡ Ok r → (t ≡ Ok tt) × (ranged o ≡ Ok r)
-listed_ok (Err d) o r e = let z : ◌≡◌ {A = ℕ} 0 1 = cc in absurd (omega arith)
-listed_ok (Ok t) o r e = (refl, e)
+pub listed_ok : {X : Type 0} (t : Result (Unit {0}) Cause) (o : Option X) (x : X) → listed t o ≡ Ok x → (t ≡ Ok tt) × (ranged o ≡ Ok x)
+listed_ok (Err d) o x e = absurd (cc)
+listed_ok (Ok t) o x e = (refl, e)
 
 -- the regimes are all there
 listed_size : (k at : ℕ) (xs : List ℕ) (o : Option Row) (r : Row) → listed (sought (byte xs at) k xs) o ≡ Ok r → (byte xs at ≤ 4) × (k + 6 * byte xs at ≤ length xs) × (ranged o ≡ Ok r)
@@ -60,20 +54,22 @@ listed_size k at xs o r e =
     (leb-true (byte xs at) 4 (and_parts (leb 1 (byte xs at)) _ f.0).1, w.0, g.1)
 
 stated_size : (kind : Kind) (xs : List ℕ) (r : Row) → fixed_size kind ≤ length xs → stated kind xs ≡ Ok r → size r ≤ length xs
-stated_size Registration xs r h e = given_size _ _ r (length xs) e (omega arith)
-stated_size Appointment xs r h e = given_size _ _ r (length xs) e (omega arith)
-stated_size Collector xs r h e = given_size _ _ r (length xs) e (omega arith)
-stated_size Profile xs r h e = given_size _ _ r (length xs) e (omega arith)
-stated_size Measurement xs r h e = made_size (is_day (word xs 0)) (λ v. row.Measurement (record { start = word xs 0; value = v })) (class_of (byte xs 2)) r (length xs) e (λ c _. omega arith)
-stated_size Energisation xs r h e = made_size (is_day (word xs 0)) (λ v. row.Energisation (record { start = word xs 0; value = v })) (status_of (byte xs 2)) r (length xs) e (λ c _. omega arith)
-stated_size LineLoss xs r h e = given_size _ _ r (length xs) e (omega arith)
-stated_size Group xs r h e = made_size (is_day (word xs 0)) (λ v. row.Group (record { start = word xs 0; value = v })) (group_of (byte xs 2)) r (length xs) e (λ c _. omega arith)
+stated_size Registration xs r h e = mapped_size (λ s. row.Registration s) (state supplier xs) r (length xs) e (λ s _. omega arith)
+stated_size Appointment xs r h e = mapped_size (λ a. row.Appointment a) (appointment xs) r (length xs) e (λ a _. omega arith)
+stated_size Collector xs r h e = mapped_size (λ s. row.Collector s) (state collector xs) r (length xs) e (λ s _. omega arith)
+stated_size Profile xs r h e = mapped_size (λ s. row.Profile s) (state profile xs) r (length xs) e (λ s _. omega arith)
+stated_size Measurement xs r h e = mapped_size (λ s. row.Measurement s) (state measurement xs) r (length xs) e (λ s _. omega arith)
+stated_size Energisation xs r h e = mapped_size (λ s. row.Energisation s) (state energisation xs) r (length xs) e (λ s _. omega arith)
+stated_size LineLoss xs r h e = mapped_size (λ s. row.LineLoss s) (state line_loss xs) r (length xs) e (λ s _. omega arith)
+stated_size Group xs r h e = mapped_size (λ s. row.Group s) (state group xs) r (length xs) e (λ s _. omega arith)
 stated_size Advance xs r h e =
-    let l = listed_size 5 4 xs (advance xs) r e in
-    made_size (is_day (word xs 0) && is_end (word xs 2)) (λ s. row.Advance (record { start = word xs 0; end = word xs 2; set = s })) (sets (byte xs 4) xs 5) r (length xs) l.2 (λ s f. let c = sets_count (byte xs 4) xs 5 s l.0 f in omega (arith, l.1))
+    let l = listed_size 5 4 xs (option_map (λ a. row.Advance a) (advance xs)) r e in
+    mapped_size (λ a. row.Advance a) (advance xs) r (length xs) l.2
+    (λ a f. let m = made_some _ _ (sets (byte xs 4) xs 5) a f in let c = sets_count (byte xs 4) xs 5 m.0 l.0 m.1 in let d : a.set.count ≡ m.0.count = cc in omega (arith, l.1))
 stated_size Estimate xs r h e =
-    let l = listed_size 3 2 xs (estimate xs) r e in
-    made_size (is_day (word xs 0)) (λ s. row.Estimate (record { start = word xs 0; set = s })) (sets (byte xs 2) xs 3) r (length xs) l.2 (λ s f. let c = sets_count (byte xs 2) xs 3 s l.0 f in omega (arith, l.1))
+    let l = listed_size 3 2 xs (option_map (λ q. row.Estimate q) (estimate xs)) r e in
+    mapped_size (λ q. row.Estimate q) (estimate xs) r (length xs) l.2
+    (λ q f. let m = made_some _ _ (sets (byte xs 2) xs 3) q f in let c = sets_count (byte xs 2) xs 3 m.0 l.0 m.1 in let d : q.set.count ≡ m.0.count = cc in omega (arith, l.1))
 
 record_size : (kind : Kind) (xs : List ℕ) (r : Row) → record_of kind xs ≡ Ok r → size r ≤ length xs
 record_size kind xs r e = let w = whole_ok (fixed_size kind) xs (stated kind xs) r e in stated_size kind xs r w.0 w.1
@@ -98,11 +94,11 @@ behind_width announced.InstructionEnd xs c e = subst (λ (d : Command). width_of
 behind_width announced.FileEnd xs c e = subst (λ (d : Command). width_of d ≤ suc (length xs)) (ok_same e) (omega arith)
 
 known_width : (o : Option Letter) (xs : List ℕ) (c : Command) → known o xs ≡ Ok c → width_of c ≤ suc (length xs)
-known_width None xs c e = let z : ◌≡◌ {A = ℕ} 0 1 = cc in absurd (omega arith)
+known_width None xs c e = absurd (cc)
 known_width (Some l) xs c e = behind_width l xs c e
 
 pub width_within : (xs : List ℕ) (c : Command) → command_in xs ≡ Ok c → width_of c ≤ length xs
-width_within [] c e = let z : ◌≡◌ {A = ℕ} 0 1 = cc in absurd (omega arith)
+width_within [] c e = absurd (cc)
 width_within (x ∷ xs) c e = known_width (letter_of x) xs c e
 
 pub read_within : (xs : List ℕ) (r : Result Command Cause) → r ≡ command_in xs → IfOk r (λ c. width_of c ≤ length xs)

@@ -1,5 +1,6 @@
 -- One command at the front of a list of bytes, or its cause: 1 unknown letter, 2 cut short, 3 operand out of range.
 use Rattle.std.specs.Prelude.{ℕ, ◌+◌, ◌*◌, cond, List, [], ◌∷◌, length, Some, None, Ok, Err, Option, Result, ◌==◌, nat_le}
+use Rattle.std.specs.Option.{option_map}
 use Rattle.fields.specs.Codes.{letter}
 use Rattle.rows.specs.Kinds.{kind_of}
 use Rattle.rows.specs.Rows.{kind_of_row}
@@ -17,7 +18,7 @@ use Rattle.commands.specs.declared.causes.Cause.{Cause}
 use Rattle.commands.specs.declared.causes.Cause.TheVariants.{UnknownLetter, CutShort, OutOfRange}
 use Rattle.commands.specs.Numbers.{byte}
 use Rattle.commands.specs.Ranges.{is_set_size}
-use Rattle.commands.specs.Records.{header, heading, registration, appointment, collector, profile, measurement, energisation, line_loss, group, advance, estimate}
+use Rattle.commands.specs.Records.{header, heading, supplier, collector, profile, measurement, energisation, line_loss, group, state, appointment, advance, estimate}
 
 -- the letters: H, I, Z, X, and for a record the letter of its kind
 abbrev pub of_kind : Option Kind → Option Letter
@@ -58,22 +59,22 @@ ranged (Some x) = Ok x
 abbrev pub sought : ℕ → ℕ → List ℕ → Result (Unit {0}) Cause
 sought n size xs = cond (is_set_size n) (whole (size + 6 * n) xs (Ok tt)) (Err OutOfRange)
 
-abbrev pub listed : Result (Unit {0}) Cause → Option Row → Result Row Cause
-listed (Err cause) r = Err cause
-listed (Ok t) r = ranged r
+abbrev pub listed : {X : Type 0} → Result (Unit {0}) Cause → Option X → Result X Cause
+listed (Err cause) o = Err cause
+listed (Ok t) o = ranged o
 
 -- what the operands of a record say, once those of fixed size are there
 abbrev pub stated : Kind → List ℕ → Result Row Cause
-stated Registration xs = ranged (registration xs)
-stated Appointment xs = ranged (appointment xs)
-stated Collector xs = ranged (collector xs)
-stated Profile xs = ranged (profile xs)
-stated Measurement xs = ranged (measurement xs)
-stated Energisation xs = ranged (energisation xs)
-stated LineLoss xs = ranged (line_loss xs)
-stated Group xs = ranged (group xs)
-stated Advance xs = listed (sought (byte xs 4) 5 xs) (advance xs)
-stated Estimate xs = listed (sought (byte xs 2) 3 xs) (estimate xs)
+stated Registration xs = ranged (option_map (λ r. row.Registration r) (state supplier xs))
+stated Appointment xs = ranged (option_map (λ r. row.Appointment r) (appointment xs))
+stated Collector xs = ranged (option_map (λ r. row.Collector r) (state collector xs))
+stated Profile xs = ranged (option_map (λ r. row.Profile r) (state profile xs))
+stated Measurement xs = ranged (option_map (λ r. row.Measurement r) (state measurement xs))
+stated Energisation xs = ranged (option_map (λ r. row.Energisation r) (state energisation xs))
+stated LineLoss xs = ranged (option_map (λ r. row.LineLoss r) (state line_loss xs))
+stated Group xs = ranged (option_map (λ r. row.Group r) (state group xs))
+stated Advance xs = listed (sought (byte xs 4) 5 xs) (option_map (λ r. row.Advance r) (advance xs))
+stated Estimate xs = listed (sought (byte xs 2) 3 xs) (option_map (λ r. row.Estimate r) (estimate xs))
 
 -- the record of a kind
 abbrev pub record_of : Kind → List ℕ → Result Row Cause

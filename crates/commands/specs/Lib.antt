@@ -4,3 +4,4 @@ pub mod Numbers
 pub mod Ranges
 pub mod Records
 pub mod Sources
+pub mod Words

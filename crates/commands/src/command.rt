@@ -1,12 +1,15 @@
 // The commands of an instruction file.
 ghost use Rattle.std.specs.Prelude.{◌≡◌, ◌≤◌};
+ghost use Rattle.std.specs.Option.{ok_or};
+ghost use Rattle.commands.specs.declared.causes.Cause.TheVariants.{UnknownLetter};
 ghost use Rattle.commands.specs.Commands.{letter_of, fixed_size, set_size, width_of, header_in, heading_in, record_in};
 
+use crate::causes::Cause;
 use rows::kinds::Kind;
 use rows::row::Row;
 
 // Who sends instruction files, by an id from 1 to 65,535.
-#[derive(Clone, Copy, PartialEq)]
+#[derive(Clone, Copy, PartialEq, Eq)]
 pub enum Source {
     // a registration agent, letter S
     Agent(u16),
@@ -16,7 +19,7 @@ pub enum Source {
 
 // What a file opens with: its source, the file's number among those of that source, and how
 // many instructions follow.
-#[derive(Clone, Copy, PartialEq)]
+#[derive(Clone, Copy, PartialEq, Eq)]
 pub struct Header {
     pub source: Source,
     pub number: u32,
@@ -26,7 +29,7 @@ pub struct Header {
 // What an instruction opens with: the metering system that it is for, its number among those
 // of its source, and the significant day, which decides with its records from when on stored
 // rows give way to them.
-#[derive(Clone, Copy, PartialEq)]
+#[derive(Clone, Copy, PartialEq, Eq)]
 pub struct Heading {
     pub system: u64,
     pub number: u32,
@@ -94,7 +97,7 @@ impl Command {
 }
 
 // How many bytes the operands of a record take, up to and with the n of a consumption set.
-pub(crate) fn fixed_size(kind: Kind) -> usize
+fn fixed_size(kind: Kind) -> usize
     ensures { result ≡ fixed_size kind }
 {
     match kind {
@@ -125,20 +128,20 @@ pub enum Letter {
     FileEnd,
 }
 
-impl Letter {
-    // The letter that a character is, if it is one.
-    pub fn from_char(letter: char) -> Option<Letter>
-        ensures { result ≡ letter_of letter }
-    {
+impl TryFrom<char> for Letter {
+    type Error = Cause;
+
+    ghost try_from_gives = { λ letter r. r ≡ ok_or (letter_of letter) UnknownLetter };
+
+    fn try_from(letter: char) -> Result<Letter, Cause> {
         match letter {
-            'H' => Some(Letter::Header),
-            'I' => Some(Letter::Instruction),
-            'Z' => Some(Letter::InstructionEnd),
-            'X' => Some(Letter::FileEnd),
-            _ => match Kind::from_letter(letter) {
-                Some(kind) => Some(Letter::Record(kind)),
-                None => None,
-            },
+            'H' => Ok(Letter::Header),
+            'I' => Ok(Letter::Instruction),
+            'Z' => Ok(Letter::InstructionEnd),
+            'X' => Ok(Letter::FileEnd),
+            _ => Kind::try_from(letter)
+                .map(Letter::Record)
+                .map_err(|_| Cause::UnknownLetter),
         }
     }
 }

@@ -4,7 +4,7 @@
 
 pub mod causes;
 pub mod command;
-mod operands;
 pub mod reading;
 mod records;
 pub mod source;
+mod words;

@@ -9,11 +9,6 @@ use crate::reading::read_command;
 pub fn source_of(bytes: &[u8]) -> Option<Source>
     ensures { result ≡ source_of_file bytes.now }
 {
-    match read_command(bytes) {
-        Ok(command) => match command.header() {
-            Some(header) => Some(header.source),
-            None => None,
-        },
-        Err(_) => None,
-    }
+    let command = read_command(bytes).ok()?;
+    command.header().map(|header| header.source)
 }

@@ -1,6 +1,5 @@
 // What a single letter says in a row: energisation status, measurement class, GSP group.
-ghost use Rattle.std.specs.Prelude.{◌≡◌, Some};
-ghost use Rattle.fields.specs.Codes.{known};
+ghost use Rattle.std.specs.Prelude.{◌≡◌, Some, ok_or};
 ghost use Rattle.fields.specs.Statuses.{status_letter, status_of};
 ghost use Rattle.fields.specs.MeasurementClasses.{class_letter, class_of};
 ghost use Rattle.fields.specs.Groups.{group_letter, group_of};
@@ -30,7 +29,7 @@ impl From<Status> for char {
 impl TryFrom<char> for Status {
     type Error = UnknownLetter;
 
-    ghost try_from_gives = { λ letter r. r ≡ known letter (status_of letter) };
+    ghost try_from_gives = { λ letter r. r ≡ ok_or (status_of letter) (record { 0 = letter }) };
 
     fn try_from(letter: char) -> Result<Status, UnknownLetter> {
         match letter {
@@ -66,7 +65,7 @@ impl From<MeasurementClass> for char {
 impl TryFrom<char> for MeasurementClass {
     type Error = UnknownLetter;
 
-    ghost try_from_gives = { λ letter r. r ≡ known letter (class_of letter) };
+    ghost try_from_gives = { λ letter r. r ≡ ok_or (class_of letter) (record { 0 = letter }) };
 
     fn try_from(letter: char) -> Result<MeasurementClass, UnknownLetter> {
         match letter {
@@ -124,7 +123,7 @@ impl From<Group> for char {
 impl TryFrom<char> for Group {
     type Error = UnknownLetter;
 
-    ghost try_from_gives = { λ letter r. r ≡ known letter (group_of letter) };
+    ghost try_from_gives = { λ letter r. r ≡ ok_or (group_of letter) (record { 0 = letter }) };
 
     fn try_from(letter: char) -> Result<Group, UnknownLetter> {
         match letter {

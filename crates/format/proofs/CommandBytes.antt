@@ -22,13 +22,13 @@ use Rattle.commands.specs.Ranges.{is_id, is_number, is_count, is_system}
 use Rattle.commands.specs.Records.{source_of, header, heading}
 use Rattle.format.specs.WellFormed.{Between, Id, Number, SourceInRange, HeadingInRange, InRange}
 use Rattle.format.specs.Written.{word_bytes, long_bytes, huge_bytes, row_bytes, source_bytes, command_bytes}
-use Rattle.commands.proofs.Inversions.{given_some, made_some, ranged_ok, whole_ok, commanded_ok}
+use Rattle.commands.proofs.Inversions.{then_some_inv, made_some, ranged_ok, whole_ok, commanded_ok}
 use Rattle.format.proofs.Letters.{code_of, record_back, letter_code}
 use Rattle.format.proofs.NumberBytes.{word_of, long_of, huge_of, byte_at, word_at, long_at, huge_at, word_below, long_below}
 use Rattle.format.proofs.RangeTests.{between_passes, between_holds, id_holds, number_holds}
 use Rattle.format.proofs.RowBytes.{row_read, row_written}
 use Rattle.format.proofs.SetBytes.{set_length}
-use Rattle.format.proofs.Steps.{given_is, whole_is}
+use Rattle.format.proofs.Steps.{then_some_is, whole_is}
 
 row_length : (r : Row) → length (row_bytes r) ≡ fixed_size (kind_of_row r) + set_size r
 row_length (row.Registration r) = refl
@@ -55,12 +55,12 @@ command_length FileEnd = refl
 
 header_written : (s : Source) (number count : ℕ) (rest : List ℕ) → SourceInRange s → Number number → Between 1 256 count → header ((source_bytes s ++ long_bytes number ++ word_bytes count) ++ rest) ≡ Some (record { source = s; number = number; count = count })
 header_written (Agent id) number count rest i n c =
-    simp (word_of, long_of) (given_is _ _ (and_from (is_id id && is_number number) (is_count count) (and_from (is_id id) (is_number number) (le-leb 1 id i.0) (le-leb 1 number n.0)) (between_passes 1 256 count c)))
+    simp (word_of, long_of) (then_some_is _ _ (and_from (is_id id && is_number number) (is_count count) (and_from (is_id id) (is_number number) (le-leb 1 id i.0) (le-leb 1 number n.0)) (between_passes 1 256 count c)))
 header_written (Collector id) number count rest i n c =
-    simp (word_of, long_of) (given_is _ _ (and_from (is_id id && is_number number) (is_count count) (and_from (is_id id) (is_number number) (le-leb 1 id i.0) (le-leb 1 number n.0)) (between_passes 1 256 count c)))
+    simp (word_of, long_of) (then_some_is _ _ (and_from (is_id id && is_number number) (is_count count) (and_from (is_id id) (is_number number) (le-leb 1 id i.0) (le-leb 1 number n.0)) (between_passes 1 256 count c)))
 
 heading_written : (h : Heading) (rest : List ℕ) → HeadingInRange h → heading ((huge_bytes h.system ++ long_bytes h.number ++ word_bytes h.day) ++ rest) ≡ Some h
-heading_written h rest r = simp (word_of, long_of, huge_of) (given_is _ h (and_from (is_system h.system && is_number h.number) (is_day h.day) (and_from (is_system h.system) (is_number h.number) (between_passes 1 9999999999999 h.system r.system) (le-leb 1 h.number r.number.0)) (between_passes 1 60000 h.day r.day)))
+heading_written h rest r = simp (word_of, long_of, huge_of) (then_some_is _ h (and_from (is_system h.system && is_number h.number) (is_day h.day) (and_from (is_system h.system) (is_number h.number) (between_passes 1 9999999999999 h.system r.system) (le-leb 1 h.number r.number.0)) (between_passes 1 60000 h.day r.day)))
 
 operands_written : {X : Type 0} (f : X → Command) (n : ℕ) (xs : List ℕ) (o : Option X) (x : X) → n ≤ length xs → o ≡ Some x → commanded f (whole n xs (ranged o)) ≡ Ok (f x)
 operands_written f n xs o x h e = ap (commanded f) (whole_is n xs (ranged o) h ∙ ap ranged e)
@@ -115,7 +115,7 @@ behind_read announced.Header xs c b e =
 behind_read announced.Instruction xs c b e =
     let g = commanded_ok _ (whole 14 xs (ranged (heading xs))) c e in
     let w = whole_ok 14 xs (ranged (heading xs)) g.0 g.1 in
-    let m = given_some (is_system (huge xs 0) && is_number (long xs 8) && is_day (word xs 12)) _ g.0 (ranged_ok (heading xs) g.0 w.1) in
+    let m = then_some_inv (is_system (huge xs 0) && is_number (long xs 8) && is_day (word xs 12)) _ g.0 (ranged_ok (heading xs) g.0 w.1) in
     let t = and_parts (is_system (huge xs 0) && is_number (long xs 8)) (is_day (word xs 12)) m.0 in
     let u = and_parts (is_system (huge xs 0)) (is_number (long xs 8)) t.0 in
     let l = w.0 in

@@ -1,8 +1,10 @@
 -- Why a command cannot be read: what the reader answers of it is what is so of the bytes there.
 use Rattle.std.proofs.Common.{◌≡◌, ℕ, ◌+◌, ◌*◌, ◌<◌, ◌≤◌, List, [], ◌∷◌, ◌++◌, length, drop, Some, None, Ok, Err, Option, Result, sym, refl, ap, ◌∙◌, subst, inl, inr, ⊎_elim, arith}
+use Rattle.std.specs.Option.{option_map}
 use Rattle.std.proofs.lemmas.Bool.{cases_lt, cases_Bool, both_ways, cond-false, cond-true}
 use Rattle.rows.specs.declared.kinds.Kind.TheVariants as kind
 use Rattle.rows.specs.declared.row.Row.{Row}
+use Rattle.rows.specs.declared.row.Row.TheVariants as row
 use Rattle.commands.specs.declared.command.Command.{Command}
 use Rattle.commands.specs.declared.command.Command.TheVariants.{InstructionEnd, FileEnd}
 use Rattle.commands.specs.declared.command.Letter.{Letter}
@@ -13,7 +15,7 @@ use Rattle.commands.specs.Commands.{letter_of, whole, ranged, sought, listed, co
 use Rattle.format.specs.Format.{Front, Regimes, Lacks, Unknown, Short, Outside, Caused}
 use Rattle.commands.specs.Numbers.{byte}
 use Rattle.commands.specs.Ranges.{is_set_size}
-use Rattle.commands.specs.Records.{header, heading, registration, appointment, collector, profile, measurement, energisation, line_loss, group, advance, estimate}
+use Rattle.commands.specs.Records.{header, heading, supplier, collector, profile, measurement, energisation, line_loss, group, state, appointment, advance, estimate}
 use Rattle.format.specs.WellFormed.{Between}
 use Rattle.format.specs.Written.{command_bytes}
 use Rattle.format.proofs.CommandBytes.{command_written, CommandRead}
@@ -76,16 +78,16 @@ module _ (xs : List ℕ) (at : ℕ) (o : Option Row) where
 letter_outcome : (l : Letter) (xs : List ℕ) → Outcome (Lacks l xs) (behind l xs)
 letter_outcome announced.Header xs = commanded_outcome (length xs < 9) _ _ (fixed_outcome 9 xs (header xs))
 letter_outcome announced.Instruction xs = commanded_outcome (length xs < 14) _ _ (fixed_outcome 14 xs (heading xs))
-letter_outcome (announced.Record kind.Registration) xs = commanded_outcome (length xs < 4) _ _ (fixed_outcome 4 xs (registration xs))
-letter_outcome (announced.Record kind.Appointment) xs = commanded_outcome (length xs < 4) _ _ (fixed_outcome 4 xs (appointment xs))
-letter_outcome (announced.Record kind.Collector) xs = commanded_outcome (length xs < 4) _ _ (fixed_outcome 4 xs (collector xs))
-letter_outcome (announced.Record kind.Profile) xs = commanded_outcome (length xs < 5) _ _ (fixed_outcome 5 xs (profile xs))
-letter_outcome (announced.Record kind.Measurement) xs = commanded_outcome (length xs < 3) _ _ (fixed_outcome 3 xs (measurement xs))
-letter_outcome (announced.Record kind.Energisation) xs = commanded_outcome (length xs < 3) _ _ (fixed_outcome 3 xs (energisation xs))
-letter_outcome (announced.Record kind.LineLoss) xs = commanded_outcome (length xs < 4) _ _ (fixed_outcome 4 xs (line_loss xs))
-letter_outcome (announced.Record kind.Group) xs = commanded_outcome (length xs < 3) _ _ (fixed_outcome 3 xs (group xs))
-letter_outcome (announced.Record kind.Advance) xs = commanded_outcome (Regimes 4 5 xs) _ _ (set_outcome xs 4 (advance xs))
-letter_outcome (announced.Record kind.Estimate) xs = commanded_outcome (Regimes 2 3 xs) _ _ (set_outcome xs 2 (estimate xs))
+letter_outcome (announced.Record kind.Registration) xs = commanded_outcome (length xs < 4) _ _ (fixed_outcome 4 xs (option_map (λ r. row.Registration r) (state supplier xs)))
+letter_outcome (announced.Record kind.Appointment) xs = commanded_outcome (length xs < 4) _ _ (fixed_outcome 4 xs (option_map (λ r. row.Appointment r) (appointment xs)))
+letter_outcome (announced.Record kind.Collector) xs = commanded_outcome (length xs < 4) _ _ (fixed_outcome 4 xs (option_map (λ r. row.Collector r) (state collector xs)))
+letter_outcome (announced.Record kind.Profile) xs = commanded_outcome (length xs < 5) _ _ (fixed_outcome 5 xs (option_map (λ r. row.Profile r) (state profile xs)))
+letter_outcome (announced.Record kind.Measurement) xs = commanded_outcome (length xs < 3) _ _ (fixed_outcome 3 xs (option_map (λ r. row.Measurement r) (state measurement xs)))
+letter_outcome (announced.Record kind.Energisation) xs = commanded_outcome (length xs < 3) _ _ (fixed_outcome 3 xs (option_map (λ r. row.Energisation r) (state energisation xs)))
+letter_outcome (announced.Record kind.LineLoss) xs = commanded_outcome (length xs < 4) _ _ (fixed_outcome 4 xs (option_map (λ r. row.LineLoss r) (state line_loss xs)))
+letter_outcome (announced.Record kind.Group) xs = commanded_outcome (length xs < 3) _ _ (fixed_outcome 3 xs (option_map (λ r. row.Group r) (state group xs)))
+letter_outcome (announced.Record kind.Advance) xs = commanded_outcome (Regimes 4 5 xs) _ _ (set_outcome xs 4 (option_map (λ r. row.Advance r) (advance xs)))
+letter_outcome (announced.Record kind.Estimate) xs = commanded_outcome (Regimes 2 3 xs) _ _ (set_outcome xs 2 (option_map (λ r. row.Estimate r) (estimate xs)))
 letter_outcome announced.InstructionEnd xs = read (λ z. z) InstructionEnd refl
 letter_outcome announced.FileEnd xs = read (λ z. z) FileEnd refl
 

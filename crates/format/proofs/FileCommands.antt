@@ -1,5 +1,6 @@
 -- Files and their commands: those of a well-formed file lead from the opening to the end and say that file, and all that lead there are those of a well-formed file.
 use Rattle.std.proofs.Common.{◌≡◌, ℕ, suc, ◌-◌, Bool, true, false, cond, ◌&&◌, eqb, List, [], ◌∷◌, ◌++◌, map, length, Some, None, Option, sym, refl, ap, ◌∙◌, subst, arith}
+use Rattle.std.specs.Bool.{then_some}
 use Rattle.std.specs.List.{AllByRecursion}
 use Rattle.std.proofs.lemmas.Bool.{eqb-true, eqb-false, ne_eqb, and_parts, and_from, cond-false}
 use Rattle.rows.specs.declared.kinds.Kind.{Kind}
@@ -8,14 +9,13 @@ use Rattle.commands.specs.declared.command.Command.{Command}
 use Rattle.commands.specs.declared.command.Command.TheVariants.{Header, Instruction, Record, InstructionEnd, FileEnd}
 use Rattle.commands.specs.declared.command.Heading.{Heading}
 use Rattle.instructions.specs.Files.{File, FileInstruction, change, records_of, instructions_of, file_of}
-use Rattle.commands.specs.Records.{given}
 use Rattle.instructions.specs.Stages.{Stage, opening, between, within, closed, follows, regimes_ascend, order_of}
 use Rattle.format.specs.WellFormed.{RowInRange, RowInForm, InstructionInForm, InRange, WellFormed}
 use Rattle.format.specs.Written.{body_commands, commands_of}
 use Rattle.format.proofs.CommandLists.{run, run_first, run_more}
-use Rattle.commands.proofs.Inversions.{given_some}
+use Rattle.commands.proofs.Inversions.{then_some_inv}
 use Rattle.format.proofs.Order.{Follows, follows_from_order, order_from_follows, decides_regimes}
-use Rattle.format.proofs.Steps.{given_is, never}
+use Rattle.format.proofs.Steps.{then_some_is, never}
 
 -- the commands of an instruction behind what opens it
 abbrev row_commands : List Row → List Command → List Command
@@ -34,7 +34,7 @@ rows_run : (rs : List Row) (rest : List Command) (left : ℕ) (before : Option (
 rows_run [] rest left before h o = refl
 rows_run (r ∷ rs) rest left before h o =
     let test = and_from (follows before (order_of r)) (regimes_ascend r) o.0 ((decides_regimes r).1 h.0.1) in
-    run_more (within left before) (within left (Some (order_of r))) (Record r) (row_commands rs rest) (given_is (follows before (order_of r) && regimes_ascend r) (within left (Some (order_of r))) test)
+    run_more (within left before) (within left (Some (order_of r))) (Record r) (row_commands rs rest) (then_some_is (follows before (order_of r) && regimes_ascend r) (within left (Some (order_of r))) test)
     ∙ rows_run rs rest left (Some (order_of r)) h.1 o.1
 
 pub body_run : (is : List FileInstruction) → AllByRecursion InstructionInForm is → run (between (length is)) (body_commands is) ≡ Some closed
@@ -108,10 +108,10 @@ said_instruction left h cs false next r t e s =
       instructions = ((r, w.rows, order_from_follows (records_of cs) w.order), w.instructions);
     }
 
-said_end : (left : ℕ) (cs : List Command) (next : Stage) → given (eqb left 0) closed ≡ Some next → Said next cs → Body left (FileEnd ∷ cs)
+said_end : (left : ℕ) (cs : List Command) (next : Stage) → then_some (eqb left 0) closed ≡ Some next → Said next cs → Body left (FileEnd ∷ cs)
 unfolding body_commands
 said_end left cs next e s =
-    let g = given_some (eqb left 0) closed next e in
+    let g = then_some_inv (eqb left 0) closed next e in
     let none : cs ≡ [] = subst (λ q. Said q cs) (sym g.1) s in
     let z = eqb-true left 0 g.0 in
     record {
@@ -120,9 +120,9 @@ said_end left cs next e s =
       instructions = subst (λ ds. AllByRecursion InstructionInForm (instructions_of ds)) (sym none) tt;
     }
 
-said_record : (left : ℕ) (before : Option (Kind × ℕ)) (r : Row) (cs : List Command) (next : Stage) → RowInRange r → given (follows before (order_of r) && regimes_ascend r) (within left (Some (order_of r))) ≡ Some next → Said next cs → Inside left before (Record r ∷ cs)
+said_record : (left : ℕ) (before : Option (Kind × ℕ)) (r : Row) (cs : List Command) (next : Stage) → RowInRange r → then_some (follows before (order_of r) && regimes_ascend r) (within left (Some (order_of r))) ≡ Some next → Said next cs → Inside left before (Record r ∷ cs)
 said_record left before r cs next h e s =
-    let g = given_some (follows before (order_of r) && regimes_ascend r) (within left (Some (order_of r))) next e in
+    let g = then_some_inv (follows before (order_of r) && regimes_ascend r) (within left (Some (order_of r))) next e in
     let t = and_parts (follows before (order_of r)) (regimes_ascend r) g.0 in
     let w : Inside left (Some (order_of r)) cs = subst (λ q. Said q cs) (sym g.1) s in
     record {

@@ -1,8 +1,8 @@
 -- The readings of a consumption set and their bytes.
-use Rattle.std.proofs.Common.{◌≡◌, ℕ, zero, suc, ◌+◌, ◌*◌, ◌<◌, ◌≤◌, true, List, [], ◌∷◌, ◌++◌, length, get_or, take, drop, ℤ, pos, nat_abs, Some, None, sym, refl, ap, ◌∙◌, subst, append_assoc, add-zero, add_assoc, add-one, arith, w32, to_z, of_z}
+use Rattle.std.proofs.Common.{◌≡◌, ℕ, zero, suc, ◌+◌, ◌*◌, ◌<◌, ◌≤◌, true, List, [], ◌∷◌, ◌++◌, length, get_or, take, drop, ℤ, pos, nat_abs, Some, sym, refl, ap, ◌∙◌, subst, append_assoc, add-zero, add_assoc, add-one, arith, w32, to_z, of_z}
 use Rattle.std.specs.List.{AllByRecursion}
 use Rattle.std.proofs.ByRecursion.{All-push, All-get_or}
-use Rattle.std.proofs.lemmas.Bool.{leb-true, le-leb, and_parts, and_from, cond-true}
+use Rattle.std.proofs.lemmas.Bool.{leb-true, le-leb, and_parts, and_from}
 use Rattle.std.proofs.lemmas.List.{take_more, take_all}
 use Rattle.fields.specs.Sets.{regimes_of, values_of, empty_set, pushed}
 use Rattle.fields.specs.declared.consumption.ConsumptionSet.{ConsumptionSet}
@@ -15,6 +15,7 @@ use Rattle.format.specs.Written.{word_bytes, long_bytes, reading_bytes}
 use Rattle.commands.proofs.Inversions.{made_some}
 use Rattle.format.proofs.NumberBytes.{joint, word_at, signed_at, word_below, word_of, signed_back, word_drop, long_drop}
 use Rattle.format.proofs.ReadingLists.{regimes_length, values_length, same_readings, pushed_count, pushed_regimes, pushed_values}
+use Rattle.format.proofs.Steps.{then_some_is}
 
 -- one reading more
 reading_more : (rs : List ℕ) (vs : List ℤ) (r : ℕ) (v : ℤ) → length rs ≡ length vs → reading_bytes (rs ++ r ∷ []) (vs ++ v ∷ []) ≡ reading_bytes rs vs ++ (word_bytes r ++ long_bytes (of_z w32 v))
@@ -128,7 +129,7 @@ module _ (s : ConsumptionSet) (xs : List ℕ) (i : ℕ) (rest : List ℕ) (rs : 
       let room : t.count < 4 = omega arith in
       record {
         set = pushed t regime value;
-        read = ap (made (is_reading regime value) (λ u. pushed u regime value)) before.read ∙ cond-true (is_reading regime value) (Some (pushed t regime value)) None test;
+        read = ap (made (is_reading regime value) (λ u. pushed u regime value)) before.read ∙ then_some_is (is_reading regime value) (pushed t regime value) test;
         count = let c = pushed_count t regime value room in omega arith;
         regimes = pushed_regimes t regime value room ∙ one_more (regimes_of s) (regimes_of t) n 0 regime (omega arith) before.regimes regime-is;
         values = pushed_values t regime value room ∙ one_more (values_of s) (values_of t) n (pos 0) value (omega arith) before.values value-is;

@@ -8,7 +8,7 @@ use Rattle.commands.specs.declared.causes.Cause.{Cause}
 use Rattle.commands.specs.declared.causes.Cause.TheVariants.{CutShort, OutOfPlace}
 use Rattle.instructions.specs.declared.faults.FileFault.{FileFault}
 use Rattle.instructions.specs.declared.faults.ReaderFault.{ReaderFault}
-use Rattle.commands.specs.Commands.{command_in, width_of, header_in}
+use Rattle.commands.specs.Commands.{command_in, width_of}
 use Rattle.instructions.specs.Faults.{in_instruction, in_file}
 use Rattle.instructions.specs.Files.{File, fault_from, onward, due, first_fault, commands_from, commands_in, instructions_of, header_of, file_of, unless, read_file}
 use Rattle.instructions.specs.Places.{located}
@@ -47,7 +47,7 @@ fault_turn place stage x xs = refl
 
 -- a command in its place leads on
 pub next_in : (place : ℕ) (stage : Stage) (xs : List ℕ) (c : Command) (next : Stage) → command_in xs ≡ Ok c → after stage c ≡ Some next → fault_from 0 place stage xs ≡ fault_from 0 (place + width_of c) next (drop (width_of c) xs)
-next_in place stage [] c next e a = let z : ◌≡◌ {A = ℕ} 0 1 = cc in absurd (omega arith)
+next_in place stage [] c next e a = absurd (cc)
 next_in place stage (x ∷ xs) c next e a =
     let some = width_some c in
     let fits = width_within (x ∷ xs) c e in
@@ -60,7 +60,7 @@ next_in place stage (x ∷ xs) c next e a =
     ∙ ap (fault_from 0 (place + width_of c) next) (drop-drop (width_of c - 1) 1 (x ∷ xs) ∙ ap (λ n. drop n (x ∷ xs)) one)
 
 pub misplaced_in : (place : ℕ) (stage : Stage) (xs : List ℕ) (c : Command) → command_in xs ≡ Ok c → after stage c ≡ None → fault_from 0 place stage xs ≡ Some (record { cause = OutOfPlace; place = place })
-misplaced_in place stage [] c e a = let z : ◌≡◌ {A = ℕ} 0 1 = cc in absurd (omega arith)
+misplaced_in place stage [] c e a = absurd (cc)
 misplaced_in place stage (x ∷ xs) c e a = fault_turn place stage x xs ∙ ap (turned place stage xs) e ∙ ap (led place xs (width_of c)) a
 
 -- a file that has not ended wants a command
@@ -101,20 +101,13 @@ module _ (xs : List ℕ) (place : ℕ) (stage : Stage) where
   pub onward_cause : (cause : Cause) → Open stage → command_in (drop place xs) ≡ Err cause → onward xs place stage ≡ Some (record { cause = cause; place = place })
   onward_cause cause = cause_in place stage (drop place xs) cause
 
-is_header : (c : Command) (h : headers.Header) → Some h ≡ header_in c → c ≡ Header h
-is_header (Header g) h e = let p : g ≡ h = cc in ap (λ (x : headers.Header). Header x) p
-is_header (Instruction g) h e = let z : ◌≡◌ {A = ℕ} 0 1 = cc in absurd (omega arith)
-is_header (Record r) h e = let z : ◌≡◌ {A = ℕ} 0 1 = cc in absurd (omega arith)
-is_header InstructionEnd h e = let z : ◌≡◌ {A = ℕ} 0 1 = cc in absurd (omega arith)
-is_header FileEnd h e = let z : ◌≡◌ {A = ℕ} 0 1 = cc in absurd (omega arith)
-
 -- the same, from what a reader of the bytes answers
 located_ok : (place : ℕ) (r : Result Command Cause) (c : Command) → Ok c ≡ located place r → r ≡ Ok c
 located_ok place (Ok d) c e = let p : c ≡ d = cc in ap (λ (x : Command). Ok x) (sym p)
-located_ok place (Err d) c e = let z : ◌≡◌ {A = ℕ} 0 1 = cc in absurd (omega arith)
+located_ok place (Err d) c e = absurd (cc)
 
 located_err : (place : ℕ) (r : Result Command Cause) (f : ReaderFault) → Err f ≡ located place r → (d : Cause) × (r ≡ Err d) × (f ≡ record { cause = d; place = place })
-located_err place (Ok c) f e = let z : ◌≡◌ {A = ℕ} 0 1 = cc in absurd (omega arith)
+located_err place (Ok c) f e = absurd (cc)
 located_err place (Err d) f e = (d, refl, (cc))
 
 module _ {ys xs : List ℕ} (same : ys ≡ xs) (place : ℕ) (stage : Stage) where
@@ -137,11 +130,6 @@ module _ {ys xs : List ℕ} (same : ys ≡ xs) (place : ℕ) (stage : Stage) whe
       let l = located_err place _ f e in
       onward_cause xs place stage l.0 o (ap (λ zs. command_in (drop place zs)) (sym same) ∙ l.1)
       ∙ sym (ap (λ (g : ReaderFault). Some (in_file (in_instruction g))) l.2)
-
-  -- the header, and so the stage behind it
-  pub read_header : (c : Command) (h : headers.Header) → Ok c ≡ located place (command_in (drop place ys)) → Some h ≡ header_in c → command_in (drop place xs) ≡ Ok (Header h)
-  read_header c h e i =
-      ap (λ zs. command_in (drop place zs)) (sym same) ∙ located_ok place _ c e ∙ ap (λ (d : Command). Ok d) (is_header c h i)
 
 -- nothing stands behind the end
 pub onward_end : (xs : List ℕ) (place : ℕ) → length xs ≤ place → onward xs place closed ≡ None
@@ -171,7 +159,7 @@ commands_skip (suc k) (x ∷ xs) h = commands_skip k xs (omega arith)
 
 -- the command at the front, and those behind it
 pub commands_next : (xs : List ℕ) (c : Command) → command_in xs ≡ Ok c → commands_in xs ≡ c ∷ commands_in (drop (width_of c) xs)
-commands_next [] c e = let z : ◌≡◌ {A = ℕ} 0 1 = cc in absurd (omega arith)
+commands_next [] c e = absurd (cc)
 commands_next (x ∷ xs) c e =
     let some = width_some c in
     let fits = width_within (x ∷ xs) c e in

@@ -1,5 +1,6 @@
 -- Walking the commands of a file one by one.
-use Rattle.std.proofs.Common.{◌≡◌, ℕ, ◌-◌, ◌<◌, List, [], length, take, drop, Ok, Err, sym, ap, ◌∙◌, subst, arith}
+use Rattle.std.proofs.Common.{◌≡◌, ℕ, ◌-◌, ◌<◌, List, [], length, take, drop, None, Ok, Err, Result, sym, ap, ◌∙◌, subst, arith}
+use Rattle.std.specs.Result.{result_ok}
 use Rattle.std.proofs.lemmas.List.{take_rest, length-drop}
 use Rattle.commands.specs.declared.command.Command.{Command}
 use Rattle.commands.specs.declared.causes.Cause.{Cause}
@@ -20,8 +21,9 @@ split_at xs c width e w =
     let rest : drop (width_of c) xs ≡ take (length xs - width) (drop width xs) = sym (take_rest xs width ∙ ap (λ n. drop n xs) w) in
     subst (λ (ys : List ℕ). Split xs c ys) rest (record { commands = commands_next xs c e; shorter = shorter xs c e })
 
-pub stopped : (xs : List ℕ) (cause : Cause) → command_in xs ≡ Err cause → commands_in xs ≡ []
-stopped = commands_stop
+pub stopped : (xs : List ℕ) (r : Result Command Cause) → r ≡ command_in xs → None ≡ result_ok r → commands_in xs ≡ []
+stopped xs (Ok c) e n = absurd (cc)
+stopped xs (Err cause) e n = commands_stop xs cause (sym e)
 
 -- the record at the front of what is left
 pub record_next : {xs ys : List ℕ} {c : Command} → Split xs c ys → records_of (commands_in xs) ≡ taken (record_in c) (records_of (commands_in ys))

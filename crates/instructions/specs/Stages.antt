@@ -1,5 +1,6 @@
 -- The form of a file: which command may come when. What may not is out of place.
 use Rattle.std.specs.Prelude.{ℕ, ◌-◌, Bool, true, cond, ◌&&◌, ◌||◌, Some, None, Option, ◌==◌, nat_lt}
+use Rattle.std.specs.Bool.{then_some}
 use Rattle.fields.specs.Ascent.{ascending}
 use Rattle.rows.specs.Kinds.{rank_of}
 use Rattle.rows.specs.Rows.{kind_of_row, start_of_row}
@@ -11,7 +12,6 @@ use Rattle.commands.specs.declared.command.Command.{Command}
 use Rattle.commands.specs.declared.command.Command.TheVariants.{Header, Instruction, Record, InstructionEnd, FileEnd}
 use Rattle.commands.specs.declared.command.Header as headers
 use Rattle.commands.specs.Commands.{header_in}
-use Rattle.commands.specs.Records.{given}
 
 -- how far a file has come
 pub data Stage : Type 0 where
@@ -61,13 +61,13 @@ from_between left (Header h) = None
 from_between left (Instruction h) = cond (left == 0) None (Some (within (left - 1) None))
 from_between left (Record r) = None
 from_between left InstructionEnd = None
-from_between left FileEnd = given (left == 0) closed
+from_between left FileEnd = then_some (left == 0) closed
 
 -- in an instruction its records, in their order, and then its end
 abbrev pub from_within : ℕ → Option (Kind × ℕ) → Command → Option Stage
 from_within left before (Header h) = None
 from_within left before (Instruction h) = None
-from_within left before (Record r) = given (follows before (order_of r) && regimes_ascend r) (within left (Some (order_of r)))
+from_within left before (Record r) = then_some (follows before (order_of r) && regimes_ascend r) (within left (Some (order_of r)))
 from_within left before InstructionEnd = Some (between left)
 from_within left before FileEnd = None
 

@@ -2,8 +2,7 @@
 ghost use Rattle.std.specs.Prelude.{◌≡◌, ℕ, ◌≤◌, ◌&&◌, Some, None, MatchResult};
 ghost use Rattle.instructions.specs.Faults.{in_file};
 ghost use Rattle.instructions.specs.Files.{onward};
-ghost use Rattle.instructions.specs.Stages.{follows, order_of, regimes_ascend, from_within, within, between};
-ghost use Rattle.instructions.specs.Turns.{stage_of};
+ghost use Rattle.instructions.specs.Stages.{follows, order_of, regimes_ascend, within, between};
 
 use crate::faults::InstructionFault;
 use crate::reader::Reader;
@@ -13,18 +12,6 @@ use fields::ascent::ascends;
 use rows::dated::Dated;
 use rows::kinds::Kind;
 use rows::row::Row;
-
-// Whether records ascend from one to the next: by kind, and in a kind by start.
-fn is_behind(before: Option<(Kind, u16)>, kind: Kind, start: u16) -> bool
-    ensures { result ≡ follows before (kind, start) }
-{
-    match before {
-        None => true,
-        Some((earlier, day)) => {
-            earlier.rank() < kind.rank() || earlier.rank() == kind.rank() && day < start
-        }
-    }
-}
 
 // Whether the regimes of a row's consumption set ascend.
 fn regimes_ascend(row: &Row) -> bool
@@ -37,32 +24,11 @@ fn regimes_ascend(row: &Row) -> bool
     }
 }
 
-// Whether a record may stand here.
+// Whether a record may stand here: records ascend by kind, and in a kind by start.
 fn is_in_place(before: Option<(Kind, u16)>, row: &Row) -> bool
     ensures { result ≡ (follows before (order_of row.now) && regimes_ascend row.now) }
 {
-    is_behind(before, row.kind(), row.start()) && regimes_ascend(row)
-}
-
-// What a command does inside an instruction.
-#[derive(Clone, Copy)]
-pub(crate) enum Turn {
-    // one record more, of this kind and start
-    Record((Kind, u16)),
-    // the instruction ends
-    End,
-    // the command is out of place
-    Misplaced,
-}
-
-fn turn_by(before: Option<(Kind, u16)>, command: &Command) -> Turn
-    ensures { (left : ℕ) → from_within left before command.now ≡ stage_of left result }
-{
-    match command {
-        Command::Record(row) if is_in_place(before, row) => Turn::Record((row.kind(), row.start())),
-        Command::InstructionEnd => Turn::End,
-        _ => Turn::Misplaced,
-    }
+    before < Some((row.kind(), row.start())) && regimes_ascend(row)
 }
 
 // Reads the records of an instruction, up to and with its end.
@@ -73,17 +39,19 @@ pub(crate) fn read_instruction(reader: &mut Reader<'_>) -> Result<(), Instructio
 {
     let mut before = None;
     loop {
-        let place = reader.at;
-        let command = reader.command()?;
-        match turn_by(before, &command) {
-            Turn::Record(order) => before = Some(order),
-            Turn::End => return Ok(()),
-            Turn::Misplaced => {
-                return Err(InstructionFault {
-                    cause: Cause::OutOfPlace,
-                    place,
-                });
+        let misplaced = InstructionFault {
+            cause: Cause::OutOfPlace,
+            place: reader.at,
+        };
+        match reader.command()? {
+            Command::Record(row) => {
+                if !is_in_place(before, &row) {
+                    return Err(misplaced);
+                }
+                before = Some((row.kind(), row.start()));
             }
+            Command::InstructionEnd => return Ok(()),
+            _ => return Err(misplaced),
         }
     }
 }

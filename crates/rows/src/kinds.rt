@@ -1,6 +1,5 @@
 // The ten kinds of row.
-ghost use Rattle.std.specs.Prelude.{◌≡◌, Some};
-ghost use Rattle.fields.specs.Codes.{known};
+ghost use Rattle.std.specs.Prelude.{◌≡◌, Some, ok_or};
 ghost use Rattle.rows.specs.Kinds.{letter_of, kind_of, rank_of};
 
 use fields::letters::UnknownLetter;
@@ -63,7 +62,7 @@ impl From<Kind> for char {
 impl TryFrom<char> for Kind {
     type Error = UnknownLetter;
 
-    ghost try_from_gives = { λ letter r. r ≡ known letter (kind_of letter) };
+    ghost try_from_gives = { λ letter r. r ≡ ok_or (kind_of letter) (record { 0 = letter }) };
 
     fn try_from(letter: char) -> Result<Kind, UnknownLetter> {
         match letter {

@@ -1,12 +1,10 @@
 // Reading a whole file: its header, as many instructions as that says, its end, and nothing behind.
 ghost use Rattle.std.specs.Prelude.{◌≡◌, ℕ, length, drop, IfOk, Some, None, Ok, MatchResult};
 ghost use Rattle.commands.specs.Commands.{command_in};
-ghost use Rattle.instructions.specs.Faults.{out_of_place};
 ghost use Rattle.instructions.specs.Files.{onward, read_file, header_of, commands_in};
 ghost use Rattle.instructions.specs.Meanings.{meant_file, said};
 ghost use Rattle.instructions.specs.Walks.{instructions_left};
-ghost use Rattle.instructions.specs.Stages.{opening, between, closed, from_between};
-ghost use Rattle.instructions.specs.Parts.{part_stage};
+ghost use Rattle.instructions.specs.Stages.{opening, between, closed};
 ghost use Rattle.commands.specs.declared.command.Command.TheVariants.{Header as IsHeader};
 
 use crate::faults::FileFault;
@@ -14,17 +12,7 @@ use crate::file::InstructionFile;
 use crate::instruction::read_instruction;
 use crate::reader::Reader;
 use crate::walking::Instructions;
-use commands::causes::Cause;
 use commands::command::{Command, Header};
-
-fn misplaced(place: usize) -> FileFault
-    ensures { result ≡ out_of_place place }
-{
-    FileFault {
-        cause: Cause::OutOfPlace,
-        place,
-    }
-}
 
 // The header that the file opens with.
 fn read_opening(reader: &mut Reader<'_>) -> Result<Header, FileFault>
@@ -32,65 +20,50 @@ fn read_opening(reader: &mut Reader<'_>) -> Result<Header, FileFault>
     ensures header { IfOk result (λ header. command_in (drop reader.old.at reader.old.bytes.now) ≡ Ok (IsHeader header)) }
     ensures bytes { reader.new.bytes.now ≡ reader.old.bytes.now }
 {
-    let place = reader.at;
-    let command = reader.command()?;
-    match command.header() {
-        Some(header) => Ok(header),
-        None => Err(misplaced(place)),
+    let misplaced = FileFault::out_of_place(reader.at);
+    match reader.command()? {
+        Command::Header(header) => Ok(header),
+        _ => Err(misplaced),
     }
 }
 
-// What a command is between two instructions.
-#[derive(Clone, Copy)]
-pub(crate) enum Part {
-    // the next instruction opens, and so many are to come behind it
-    Instruction(u16),
-    // the file ends
-    End,
-    // the command is out of place
-    Misplaced,
-}
-
-fn part_by(left: u16, command: &Command) -> Part
-    ensures { from_between left command.now ≡ part_stage result }
-{
-    match command {
-        Command::Instruction(_) if left > 0 => Part::Instruction(left - 1),
-        Command::FileEnd if left == 0 => Part::End,
-        _ => Part::Misplaced,
-    }
-}
-
-// The instructions, up to and with the end of the file.
+// As many instructions as the header says.
 fn read_instructions(reader: &mut Reader<'_>, count: u16) -> Result<(), FileFault>
-    ensures value { MatchResult result (λ _. onward reader.old.bytes.now reader.old.at (between count) ≡ onward reader.old.bytes.now reader.new.at closed) (λ fault. onward reader.old.bytes.now reader.old.at (between count) ≡ Some fault) }
+    ensures value { MatchResult result (λ _. onward reader.old.bytes.now reader.old.at (between count) ≡ onward reader.old.bytes.now reader.new.at (between 0)) (λ fault. onward reader.old.bytes.now reader.old.at (between count) ≡ Some fault) }
     ensures bytes { reader.new.bytes.now ≡ reader.old.bytes.now }
 {
-    let mut left = count;
-    loop {
-        let place = reader.at;
-        let command = reader.command()?;
-        match part_by(left, &command) {
-            Part::Instruction(behind) => {
-                read_instruction(reader)?;
-                left = behind;
-            }
-            Part::End => return Ok(()),
-            Part::Misplaced => return Err(misplaced(place)),
+    for _ in 0..count {
+        let misplaced = FileFault::out_of_place(reader.at);
+        match reader.command()? {
+            Command::Instruction(_) => read_instruction(reader)?,
+            _ => return Err(misplaced),
         }
+    }
+    Ok(())
+}
+
+// The end of the file, behind its instructions.
+fn read_end(reader: &mut Reader<'_>) -> Result<(), FileFault>
+    ensures value { MatchResult result (λ _. onward reader.old.bytes.now reader.old.at (between 0) ≡ onward reader.old.bytes.now reader.new.at closed) (λ fault. onward reader.old.bytes.now reader.old.at (between 0) ≡ Some fault) }
+    ensures bytes { reader.new.bytes.now ≡ reader.old.bytes.now }
+{
+    let misplaced = FileFault::out_of_place(reader.at);
+    match reader.command()? {
+        Command::FileEnd => Ok(()),
+        _ => Err(misplaced),
     }
 }
 
 // Nothing may stand behind the end of the file; what does is told as a command like any other.
-fn read_end(reader: &mut Reader<'_>) -> Result<(), FileFault>
+fn read_nothing(reader: &mut Reader<'_>) -> Result<(), FileFault>
     ensures value { MatchResult result (λ _. onward reader.old.bytes.now reader.old.at closed ≡ None) (λ fault. onward reader.old.bytes.now reader.old.at closed ≡ Some fault) }
 {
-    let place = reader.at;
-    if place >= reader.bytes.len() {
+    let misplaced = FileFault::out_of_place(reader.at);
+    if reader.at >= reader.bytes.len() {
         return Ok(());
     }
-    let _command = reader.command()?;
-    Err(misplaced(place))
+    reader.command()?;
+    Err(misplaced)
 }
 
 impl<'a> InstructionFile<'a> {
@@ -103,6 +76,7 @@ impl<'a> InstructionFile<'a> {
         let header = read_opening(&mut reader)?;
         read_instructions(&mut reader, header.count)?;
         read_end(&mut reader)?;
+        read_nothing(&mut reader)?;
         Ok(InstructionFile { bytes, header })
     }
 

@@ -23,12 +23,11 @@ impl<'a> Reader<'a> {
         ensures at { self.new.at ≡ moved self.old.at result }
     {
         let place = self.at;
-        match read_command(&self.bytes[place..]) {
-            Ok(command) => {
-                self.at = place + command.width();
-                Ok(command)
-            }
-            Err(cause) => Err(ReaderFault { cause, place }),
-        }
+        let command = read_command(&self.bytes[place..]).map_err(|cause| ReaderFault {
+            cause,
+            place,
+        })?;
+        self.at = place + command.width();
+        Ok(command)
     }
 }

@@ -14,13 +14,9 @@ impl Walk<'_> {
     fn command(&mut self) -> Option<Command>
         ensures { MatchOption result (commands_in self.old.rest.now ≡ []) (λ c. Split self.old.rest.now c self.new.rest.now) }
     {
-        match read_command(self.rest) {
-            Ok(command) => {
-                self.rest = &self.rest[command.width()..];
-                Some(command)
-            }
-            Err(_) => None,
-        }
+        let command = read_command(self.rest).ok()?;
+        self.rest = &self.rest[command.width()..];
+        Some(command)
     }
 }
 

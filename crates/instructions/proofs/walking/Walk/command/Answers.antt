@@ -1,9 +1,12 @@
-use Rattle.std.proofs.Common.{sym}
+use Rattle.std.proofs.Common.{◌≡◌, Ok, rules}
+use Rattle.commands.specs.Commands.{command_in}
 use Rattle.instructions.proofs.Walked.{split_at, stopped}
 use Rattle.instructions.proofs.walking.Walk.command.Goals as goal
 
-pub returns-in-Ok : goal.returns-in-Ok
-returns-in-Ok c = split_at c.args.self.now.rest.now c.in-Ok.command c.width.result (sym c.in-Ok.ensures.value) c.width.ensures
+pub returns-in_err-command : goal.returns-in_err-command
+returns-in_err-command c = rw c.from_residual.ensures (stopped c.args.self.now.rest.now c.read_command.result c.read_command.ensures.value c.in_err-command.ensures.value)
 
-pub returns-in-Err : goal.returns-in-Err
-returns-in-Err c = stopped _ _ (sym c.in-Err.ensures.value)
+pub returns : goal.returns
+returns c =
+    let read : command_in c.args.self.now.rest.now ≡ Ok c.in_ok-command.command = search rules in
+    split_at c.args.self.now.rest.now c.in_ok-command.command c.width.result read c.width.ensures

@@ -1,0 +1,26 @@
+-- What causes, sources, headers and headings are in words.
+use Rattle.std.specs.Prelude.{ℕ, List, ◌++◌, codes}
+use Rattle.std.specs.Fmt.{decimal}
+use Rattle.commands.specs.declared.causes.Cause.{Cause}
+use Rattle.commands.specs.declared.causes.Cause.TheVariants.{UnknownLetter, CutShort, OutOfRange, OutOfPlace}
+use Rattle.commands.specs.declared.command.Header.{Header}
+use Rattle.commands.specs.declared.command.Heading.{Heading}
+use Rattle.commands.specs.declared.command.Source.{Source}
+use Rattle.commands.specs.declared.command.Source.TheVariants.{Agent, Collector}
+
+abbrev pub cause_words : Cause → List ℕ
+cause_words UnknownLetter = codes "cause 1, unknown letter"
+cause_words CutShort = codes "cause 2, cut short"
+cause_words OutOfRange = codes "cause 3, operand out of range"
+cause_words OutOfPlace = codes "cause 4, out of place"
+
+-- a source by its role and id
+abbrev pub source_words : Source → List ℕ
+source_words (Agent id) = codes "registration agent " ++ decimal id
+source_words (Collector id) = codes "data collector " ++ decimal id
+
+abbrev pub header_words : Header → List ℕ
+header_words h = codes "file " ++ (decimal h.number ++ (codes " of " ++ (source_words h.source ++ (codes ", instructions: " ++ decimal h.count))))
+
+abbrev pub heading_words : Heading → List ℕ
+heading_words h = codes "instruction " ++ (decimal h.number ++ (codes " for metering system " ++ (decimal h.system ++ (codes ", significant day " ++ decimal h.day))))
