@@ -8,7 +8,7 @@ ghost use Rattle.fields.specs.Padding.{Padded};
 // time pattern regimes. Entries behind the first `count` are zero, always: nothing of a
 // longer set is left behind a shorter one. Fixed arrays with a count, since nothing here allocates;
 // two of them, and not one of pairs, since the regimes are lent as a slice.
-#[derive(Clone, Copy)]
+#[derive(Clone, Copy, Debug, PartialEq, Eq)]
 pub struct ConsumptionSet {
     count: usize,
     regimes: [u16; 4],

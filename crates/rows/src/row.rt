@@ -12,7 +12,7 @@ use fields::letters::{Group, MeasurementClass, Status};
 use fields::states::{Collector, LineLossClass, Profile, Supplier};
 
 // A row that says one thing of a metering system from its start on.
-#[derive(Clone, Copy)]
+#[derive(Clone, Copy, Debug, PartialEq, Eq)]
 pub struct State<V> {
     pub start: u16,
     pub value: V,
@@ -33,7 +33,7 @@ impl<V> Dated for State<V> {
 }
 
 // Our own appointment to aggregate a metering system.
-#[derive(Clone, Copy)]
+#[derive(Clone, Copy, Debug, PartialEq, Eq)]
 pub struct Appointment {
     pub start: u16,
     pub end: u16,
@@ -65,7 +65,7 @@ impl Span for Appointment {
 }
 
 // A meter advance: what was metered between two days, as consumption in a year.
-#[derive(Clone, Copy)]
+#[derive(Clone, Copy, Debug, PartialEq, Eq)]
 pub struct Advance {
     pub start: u16,
     pub end: u16,
@@ -97,7 +97,7 @@ impl Span for Advance {
 }
 
 // An estimate of annual consumption, used where no advance is in effect.
-#[derive(Clone, Copy)]
+#[derive(Clone, Copy, Debug, PartialEq, Eq)]
 pub struct Estimate {
     pub start: u16,
     pub set: ConsumptionSet,
@@ -118,7 +118,7 @@ impl Dated for Estimate {
 }
 
 // A row of any kind.
-#[derive(Clone, Copy)]
+#[derive(Clone, Copy, Debug, PartialEq, Eq)]
 pub enum Row {
     Registration(State<Supplier>),
     Appointment(Appointment),
