@@ -18,12 +18,12 @@ loop-link-smaller c =
     let self = c.args.self.now in
     let h : c.loop-link.link - 1 < length c.args.self.now.blocks.now = omega (arith, c.loop-link.invariant.within, self.used, self.blocked, length-map self.blocks.now folder_of) in
     subst (λ (n : ℕ). n < c.loop-link.link) (link_read self.blocks.now (c.loop-link.link - 1) c.index-blocks-at.result h c.index-blocks-at.is)
-    (walk_falls self.heads.now (folders_of self.blocks.now) (links_of self.blocks.now) self.count c.args.pair (sound_of self).linked c.loop-link.link c.loop-link-test.true c.loop-link.invariant.within)
+    (walk_falls self.heads.now (folders_of self.blocks.now) (links_of self.blocks.now) self.count c.args.pair (sound_of self).linked c.loop-link.link (omega arith) c.loop-link.invariant.within)
 
 pub loop-link-preserved : goal.loop-link-preserved
 loop-link-preserved c =
     let self = c.args.self.now in
     let h : c.loop-link.link - 1 < length c.args.self.now.blocks.now = omega (arith, c.loop-link.invariant.within, self.used, self.blocked, length-map self.blocks.now folder_of) in
     subst (Walk (pair_at (folders_of self.blocks.now)) (length self.heads.now) c.args.pair self.count) (link_read self.blocks.now (c.loop-link.link - 1) c.index-blocks-at.result h c.index-blocks-at.is)
-    (walk_on self.heads.now (folders_of self.blocks.now) (links_of self.blocks.now) self.count c.args.pair (sound_of self).linked c.loop-link.link c.loop-link-test.true c.loop-link.invariant
+    (walk_on self.heads.now (folders_of self.blocks.now) (links_of self.blocks.now) self.count c.args.pair (sound_of self).linked c.loop-link.link (omega arith) c.loop-link.invariant
     (ap (same c.args.pair) (pair_read self.blocks.now (c.loop-link.link - 1) c.index-blocks-at.result h c.index-blocks-at.is) ∙ sym c.if-eq.ensures))
