@@ -142,7 +142,7 @@ mod tests {
             return Answer::Nothing;
         };
         let start = row.start();
-        let as_added = row.kind().rank() == kind.rank() && said(&row) == said(&row_of(kind, start));
+        let as_added = row.kind() == kind && said(&row) == said(&row_of(kind, start));
         if as_added {
             Answer::Row(start)
         } else {

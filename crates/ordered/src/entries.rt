@@ -21,7 +21,7 @@ pub struct Entry {
 #[derive(Clone, Copy, PartialEq, Eq, PartialOrd, Ord)]
 pub(crate) struct Key {
     pub(crate) pair: Pair,
-    // 0 for the folder itself, then the kinds in their order
+    // 0 for the folder, then the kinds; a number, since one past the last kind ends its rows
     pub(crate) level: usize,
     pub(crate) start: u16,
 }
