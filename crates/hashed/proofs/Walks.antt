@@ -1,6 +1,6 @@
 -- The chains of blocks, and what a walk along one finds.
-use Rattle.std.proofs.Common.{◌≡◌, ℕ, zero, suc, ◌-◌, ◌<◌, ◌≤◌, true, false, eqb, List, length, get_or, sym, refl, ap, ◌∙◌, subst, arith}
-use Rattle.std.proofs.lemmas.Bool.{eqb-true, eqb-false, cond-true, cond-false, cond_both}
+use Rattle.std.proofs.Common.{◌≡◌, ℕ, zero, suc, ◌-◌, ◌<◌, ◌≤◌, false, eqb, List, length, get_or, sym, refl, ap, ◌∙◌, subst, arith}
+use Rattle.std.proofs.lemmas.Bool.{eqb-true, eqb-false, cond-false, cond_both}
 use Rattle.register.specs.declared.pairs.Pair.{Pair}
 use Rattle.register.specs.Folders.{Folder, same}
 use Rattle.register.proofs.PairOrder.{same_is, refuted}
@@ -37,10 +37,6 @@ seek_on f k zero l e = absurd (omega arith)
 seek_on f k (suc n) l e =
     let s : suc n - 1 ≡ n = omega arith in
     cond-false _ _ _ (ap (λ m. same k (f m)) (sym s) ∙ e) ∙ ap (seek f k) (sym s)
-
-pub seek_here : (f : ℕ → Pair) (k : Pair) (at : ℕ) → 0 < at → same k (f (at - 1)) ≡ true → seek f k at ≡ at
-seek_here f k zero l e = absurd (omega arith)
-seek_here f k (suc n) l e = let s : suc n - 1 ≡ n = omega arith in cond-true _ _ _ (ap (λ m. same k (f m)) (sym s) ∙ e)
 
 -- where a walk for a pair stands: on its chain, with all that it looks for still before it
 pub record Walk (f : ℕ → Pair) (size : ℕ) (k : Pair) (count at : ℕ) : Type 0 where
