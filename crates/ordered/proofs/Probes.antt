@@ -58,10 +58,6 @@ rank_most Group = omega arith
 rank_most Advance = omega arith
 rank_most Estimate = omega arith
 
-level_most : (o : Option Row) → level_of o ≤ 10
-level_most None = omega arith
-level_most (Some r) = omega (arith, rank_most (kind_of_row r))
-
 level_of_lem : (k : Kind) (o : Option Row) → of_kind k o ≡ true → level_of o ≡ suc (rank_of k)
 level_of_lem k None h = absurd (both_ways false refl h)
 level_of_lem k (Some r) h = ap suc (sym (eqb-true (rank_of k) (rank_of (kind_of_row r)) h))

@@ -2,7 +2,7 @@
 ghost use Rattle.std.specs.Prelude.{◌≡◌, suc, Some, None};
 ghost use Rattle.rows.specs.Kinds.{rank_of};
 ghost use Rattle.register.specs.Folders.{lowest};
-ghost use Rattle.ordered.specs.Keys.{key_of};
+ghost use Rattle.ordered.specs.Keys.{key_of, lower};
 
 use register::pairs::Pair;
 use rows::dated::Dated;
@@ -21,7 +21,7 @@ pub struct Entry {
 #[derive(Clone, Copy, PartialEq, Eq, PartialOrd, Ord)]
 pub(crate) struct Key {
     pub(crate) pair: Pair,
-    // 0 for the folder itself, then the kinds in their order
+    // 0 for the folder, then the kinds; a number, since one past the last kind ends its rows
     pub(crate) level: usize,
     pub(crate) start: u16,
 }
@@ -63,6 +63,13 @@ impl Entry {
             level,
             start,
         }
+    }
+
+    // Whether it stands before another.
+    pub(crate) fn is_before(&self, other: &Entry) -> bool
+        ensures { result ≡ lower (key_of self.now) (key_of other.now) }
+    {
+        self.key() < other.key()
     }
 }
 

@@ -34,7 +34,7 @@ impl<'a> Sorted<'a> {
         if rows.len() >= kind.maximum() {
             return None;
         }
-        if last.key() < Entry::of_row(pair, row).key() {
+        if last.is_before(&Entry::of_row(pair, row)) {
             Some(at)
         } else {
             None
