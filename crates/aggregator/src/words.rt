@@ -1,4 +1,5 @@
-// What records are in words.
+// What records are in words. Types around the row, its set and its end: the rows' own crates say nothing in
+// sentences, and only this program prints them.
 use fields::consumption::ConsumptionSet;
 use fields::letters::Status;
 use rows::row::Row;

@@ -18,8 +18,8 @@ mod tests {
     // Where its commands begin.
     const PLACES: [usize; 14] = [0, 10, 25, 30, 35, 40, 46, 50, 54, 59, 63, 81, 91, 92];
 
-    // What a file is found to be: 0 and 0 where it is well formed, else the number of the
-    // cause and the place.
+    // What a file is found to be, as the tables have it: 0 and 0 where it is well formed, else the number of
+    // the cause and the place.
     fn found(bytes: &[u8]) -> (u8, usize) {
         match read_file(bytes) {
             Ok(_) => (0, 0),

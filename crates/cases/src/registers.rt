@@ -243,8 +243,14 @@ mod tests {
         assert_eq!(rt; ordered_places(&mut [Entry::blank(); 96]), 0);
         assert_eq!(rt; ordered_places(&mut []), 0);
         let mut blocks = [Block::blank(); 3];
-        assert_eq!(rt; hashed_places(&mut [Some(0); 1], &mut blocks, &mut [0; 4]), 3);
-        assert_eq!(rt; hashed_places(&mut [Some(0); 1], &mut blocks, &mut [0; 2]), 2);
+        assert_eq!(rt;
+            hashed_places(&mut [Some(0); 1], &mut blocks, &mut [0; 4]),
+            3
+        );
+        assert_eq!(rt;
+            hashed_places(&mut [Some(0); 1], &mut blocks, &mut [0; 2]),
+            2
+        );
         assert_eq!(rt; hashed_places(&mut [], &mut blocks, &mut [0; 4]), 0);
         assert_eq!(rt; hashed_places(&mut [Some(0); 1], &mut [], &mut [0; 4]), 0);
     }

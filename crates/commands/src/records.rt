@@ -25,7 +25,7 @@ const LAST_LINE_LOSS_CLASS: u16 = 999;
 
 const LARGEST_VALUE: u32 = 2_000_000_000;
 
-// The source that a header names by its letter and id.
+// The source that a header names by its letter and id, if the letter names one: the caller tells the cause.
 fn source(letter: char, id: u16) -> Option<Source>
     ensures { result ≡ source_of letter id }
 {

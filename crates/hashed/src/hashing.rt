@@ -1,4 +1,6 @@
-// The register that finds a folder by hashing its pair, in lent memory, always sound. In `keeping`, what is done with it.
+// The register that finds a folder by hashing its pair, in lent memory, always sound. In `finding`, where a
+// folder is, and in `keeping`, what is done with it.
+mod finding;
 mod keeping;
 
 ghost use Rattle.register.specs.Folders.{Systems};

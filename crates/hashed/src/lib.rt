@@ -1,7 +1,6 @@
 // The register that finds a folder's block by hashing its pair, in lent memory.
 #![tactic(auto)]
 
-mod chains;
 mod changes;
 pub mod hashing;
 mod orders;

@@ -19,7 +19,8 @@ impl<'a> Edition<'a> {
         check_combinations(&configurations, self.combinations)
     }
 
-    // What is wrong with the edition, at the first place of the first list that has a fault: none if it is lawful.
+    // What is wrong with the edition, at the first place of the first list that has a fault: none if it is
+    // lawful. An Option, since it is a question; `check` refuses by a Result.
     pub fn fault(&self) -> Option<EditionFault>
         ensures value { result ≡ first_fault (lists_of self.now) }
         ensures lawful { Decides (not (is_some result)) (Lawful (lists_of self.now)) }

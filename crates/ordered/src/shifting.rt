@@ -5,7 +5,8 @@ ghost use Rattle.std.specs.List.{insert};
 use crate::entries::Entry;
 use std::ops::Range;
 
-// Puts an entry at a place, and the used entries from there on one place up.
+// Puts an entry at a place, and the used entries from there on one place up. The hashed register has the
+// same two lines for its order: shared, they would be public, and so have to refuse.
 pub(crate) fn put(entries: &mut [Entry], used: usize, at: usize, entry: Entry)
     requires room { used < length entries.old }
     requires place { at ≤ used }

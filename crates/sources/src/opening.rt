@@ -60,7 +60,8 @@ impl Opening<'_> {
     // How many sources a book has at most.
     pub const MOST_SOURCES: usize = 128;
 
-    // The first rule that the list breaks, with the place; none if a book may be opened with it.
+    // The first rule that the list breaks, with the place; none if a book may be opened with it. An Option,
+    // since it is a question, and nothing is refused here.
     pub fn fault(&self) -> Option<OpeningFault>
         ensures { MatchOption result (Lawful self.now.sources.now) (λ fault. Breaks fault self.now.sources.now) }
     {

@@ -1,17 +1,13 @@
-// Folders in lent memory: found, read, made, cut, added to and forgotten.
-ghost use Rattle.std.specs.Prelude.{◌≡◌, ◌<◌, ◌≤◌, true, false, [], map, length, take, drop, IfSome, MatchOption};
-ghost use Rattle.std.specs.List.{AllByRecursion};
-ghost use Rattle.blocks.specs.Block.{folder_of};
-ghost use Rattle.register.specs.Folders.{below, no_rows, rows_of};
+// Folders in lent memory: read, made, cut, added to and forgotten.
+ghost use Rattle.std.specs.Prelude.{◌≡◌, [], length};
 ghost use Rattle.hashed.specs.Form.{in_form_lem};
 ghost use Rattle.hashed.specs.Memory.{held_folders};
-ghost use Rattle.hashed.specs.Table.{folders_of, pair_at, seek, places_of};
+ghost use Rattle.hashed.specs.Table.{places_of};
 
-use crate::chains::home;
 use crate::changes::{add_at, cut_at};
 use crate::hashing::Hashed;
+use crate::hashing::finding::home;
 use crate::orders::insert;
-use crate::{chains, orders};
 use blocks::block::Block;
 use register::pairs::Pair;
 use register::registers::Register;
@@ -50,32 +46,6 @@ impl<'a> Hashed<'a> {
             places,
         }
     }
-
-    // The place of a pair's block.
-    fn find(&self, pair: Pair) -> Option<usize>
-        ensures value { result ≡ seek (pair_at (folders_of self.now.blocks.now)) pair self.now.count }
-        ensures within { IfSome result (λ place. place < self.now.count) }
-    {
-        chains::find(self.heads, self.blocks, self.count, pair)
-    }
-
-    // The block of a pair, which has its rows.
-    fn block(&self, pair: Pair) -> Option<&Block>
-        ensures { MatchOption result (rows_of pair (held_folders self.now) ≡ no_rows) (λ b. rows_of pair (held_folders self.now) ≡ (folder_of b.now).rows) }
-    {
-        let at = self.find(pair)?;
-        let blocks = &*self.blocks;
-        Some(&blocks[at])
-    }
-
-    // The first place in the order whose pair comes after this one.
-    fn locate(&self, pair: Pair) -> usize
-        ensures within { result ≤ self.now.count }
-        ensures before { AllByRecursion (λ q. below pair q ≡ false) (take result (map (pair_at (folders_of self.now.blocks.now)) (take self.now.count self.now.order.now))) }
-        ensures behind { AllByRecursion (λ q. below pair q ≡ true) (drop result (map (pair_at (folders_of self.now.blocks.now)) (take self.now.count self.now.order.now))) }
-    {
-        orders::locate(self.blocks, self.order, self.count, pair)
-    }
 }
 
 impl<'a> Register for Hashed<'a> {
@@ -94,7 +64,12 @@ impl<'a> Register for Hashed<'a> {
     }
 
     fn next(&self, pair: Pair) -> Option<Pair> {
-        orders::next(self.blocks, self.order, self.count, pair)
+        let at = self.locate(pair);
+        if at >= self.count {
+            return None;
+        }
+        let blocks = &*self.blocks;
+        Some(blocks[self.order[at] as usize].pair)
     }
 
     fn count(&self, pair: Pair, kind: Kind) -> usize {

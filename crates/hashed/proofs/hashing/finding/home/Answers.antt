@@ -1,6 +1,6 @@
 use Rattle.std.proofs.Common.{◌≡◌, ◌+◌, ◌*◌, ◌/◌, ◌%◌, ◌^◌, ap, mod-lt, arith}
 use Rattle.hashed.specs.Table.{home_of}
-use Rattle.hashed.proofs.chains.home.Goals as goal
+use Rattle.hashed.proofs.hashing.finding.home.Goals as goal
 
 pub returns : goal.returns
 unfolding home_of
