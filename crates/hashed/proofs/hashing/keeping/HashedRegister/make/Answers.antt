@@ -13,19 +13,17 @@ use Rattle.hashed.proofs.Growth.{long_held}
 use Rattle.hashed.proofs.NewBlock.{new_held, new_sound}
 use Rattle.hashed.proofs.hashing.keeping.HashedRegister.make.Goals as goal
 
-held : (c : goal.Then-is_some) → holds c.with_view-pair.result (held_folders c.args.self.now) ≡ true
-held c =
-    let t = c.args.self.now in
-    holds_gathered (folder_at (folders_of t.blocks.now)) c.with_view-pair.result t.count ∙ ap is_some (sym c.find.ensures.value) ∙ sym c.is_some.ensures ∙ c.if-is_some.true
-
 pub returns-then-is_some-clause-answer : goal.returns-then-is_some-clause-answer
 returns-then-is_some-clause-answer c =
-    sym (or_left _ _ (held c)) ∙ ap (λ (p : Pair). makeable c.args.self.now.places p (held_folders c.args.self.now)) c.with_view-pair.ensures
+    let t = c.args.self.now in
+    let held : holds c.with_view-pair.result (held_folders c.args.self.now) ≡ true = holds_gathered (folder_at (folders_of t.blocks.now)) c.with_view-pair.result t.count ∙ ap is_some (sym c.find.ensures.value) ∙ sym c.is_some.ensures ∙ c.if-is_some.true in
+    sym (or_left _ _ held) ∙ ap (λ (p : Pair). makeable t.places p (held_folders t)) c.with_view-pair.ensures
 
 pub returns-then-is_some-clause-after : goal.returns-then-is_some-clause-after
 returns-then-is_some-clause-after c =
     let t = c.args.self.now in
-    sym (made_held c.with_view-pair.result (held_folders t) (rising_gathered (folder_at (folders_of t.blocks.now)) t.count) (held c))
+    let held : holds c.with_view-pair.result (held_folders c.args.self.now) ≡ true = holds_gathered (folder_at (folders_of t.blocks.now)) c.with_view-pair.result t.count ∙ ap is_some (sym c.find.ensures.value) ∙ sym c.is_some.ensures ∙ c.if-is_some.true in
+    sym (made_held c.with_view-pair.result (held_folders t) (rising_gathered (folder_at (folders_of t.blocks.now)) t.count) held)
     ∙ ap (λ (p : Pair). made p (held_folders t)) c.with_view-pair.ensures
 
 pub returns-then-used-self-clause-answer : goal.returns-then-used-self-clause-answer
