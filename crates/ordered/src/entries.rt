@@ -65,7 +65,7 @@ impl Entry {
         }
     }
 
-    // Whether it stands before another.
+    // Whether it stands before another: by their keys, which derive their order, since rows have none.
     pub(crate) fn is_before(&self, other: &Entry) -> bool
         ensures { result ≡ lower (key_of self.now) (key_of other.now) }
     {
