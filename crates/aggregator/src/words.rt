@@ -1,5 +1,4 @@
-// What records are in words. Types around the row, its set and its end: the rows' own crates say nothing in
-// sentences, and only this program prints them.
+// What records are in words, by types around the row, its set and its end, whose crates have no words yet.
 use fields::consumption::ConsumptionSet;
 use fields::letters::Status;
 use rows::row::Row;

@@ -1,6 +1,7 @@
 // Why a file cannot be read, and where. Each layer of reading has a fault of its own; a fault
 // that comes from below keeps its cause and its place.
-// Kept as three structs: conversions of one generic struct would overlap `From<T> for T`.
+// Kept as three structs: one generic over its layer takes a type and a field for each, and the same `From`
+// impls.
 ghost use Rattle.std.specs.Prelude.{◌≡◌, Some};
 ghost use Rattle.instructions.specs.Faults.{in_instruction, in_file, out_of_place, fault_words};
 

@@ -9,7 +9,7 @@ ghost use Rattle.market.specs.Lists.{lists_of};
 use crate::ascents::Ascending;
 use crate::edition::{Combination, Configuration, Edition};
 
-// The flag stands beside the edition, since the lists of one that is not lawful are told too.
+// The flag stands beside the edition, since clauses speak of the lists of one that is not lawful too.
 #[derive(Clone, Copy)]
 pub struct CheckedEdition<'a> {
     edition: Edition<'a>,

@@ -16,7 +16,7 @@ use rows::row::Row;
 
 // Folders in lent memory. The used entries stand first; they are in order, and the folders among
 // them are counted. There is memory for as many full folders as there are places, so a row that may
-// be added always finds room.
+// be added always finds room. Counts stand beside the entries, since they are lent and nothing allocates.
 #[derive(Drop)]
 pub struct Ordered<'a> {
     entries: &'a mut [Entry],
