@@ -1,14 +1,14 @@
 // What can be wrong with an edition: the rule that is broken, and the place of the entry that breaks it.
 
 // A list of ids ascends, and none of them is 0.
-#[derive(Clone, Copy)]
+#[derive(Clone, Copy, Debug, PartialEq, Eq)]
 pub enum IdRule {
     Range,
     // it is above the one before it
     Order,
 }
 
-#[derive(Clone, Copy)]
+#[derive(Clone, Copy, Debug, PartialEq, Eq)]
 pub enum ConfigurationRule {
     Id(IdRule),
     // it has one to four regimes
@@ -17,7 +17,7 @@ pub enum ConfigurationRule {
     Regime(IdRule, usize),
 }
 
-#[derive(Clone, Copy)]
+#[derive(Clone, Copy, Debug, PartialEq, Eq)]
 pub enum CombinationRule {
     ConfigurationRange,
     ClassRange,
@@ -33,7 +33,7 @@ pub enum CombinationRule {
     Order,
 }
 
-#[derive(Clone, Copy)]
+#[derive(Clone, Copy, Debug, PartialEq, Eq)]
 pub enum EditionFault {
     Supplier(IdRule, usize),
     Configuration(ConfigurationRule, usize),

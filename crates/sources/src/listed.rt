@@ -2,7 +2,7 @@
 ghost use Rattle.std.specs.Prelude.{◌≡◌, Decides};
 ghost use Rattle.sources.specs.Listings.{id_of, InRange, Clash};
 
-#[derive(Clone, Copy)]
+#[derive(Clone, Copy, Debug, PartialEq, Eq)]
 pub enum Listed {
     // a registration agent with the one distributor that it serves
     Agent { id: u16, distributor: u8 },

@@ -12,7 +12,7 @@ pub struct Opening<'a> {
 }
 
 // The rule that a list of sources breaks, and where.
-#[derive(Clone, Copy)]
+#[derive(Clone, Copy, Debug, PartialEq, Eq)]
 pub enum OpeningFault {
     // there are more than 128
     TooMany,
