@@ -32,17 +32,15 @@ fn print_records(rt: &HostRuntime, length: usize, change: &Change<'_>) -> io::Re
 fn print_file(rt: &HostRuntime, name: &str, file: &InstructionFile<'_>) -> io::Result<()> {
     let length = file.len();
     println!(rt; "  {:>6}  H  {}", 0, file.header())?;
+    let mut records = 0usize;
     for instruction in file.instructions() {
         let Instruction::Change(change) = instruction;
         print_heading(rt, length, &change)?;
         print_records(rt, length, &change)?;
+        records = records.saturating_add(change.records.count());
     }
-    let instructions = file.instructions().count();
-    let records = file
-        .instructions()
-        .fold(0usize, |sum, Instruction::Change(change)| {
-            sum.saturating_add(change.records.count())
-        });
+    // as many as the header says, since the file is well formed
+    let instructions = file.header().count;
     println!(rt;
         "{name}: well formed, bytes: {length}, instructions: {instructions}, records: {records}"
     )
