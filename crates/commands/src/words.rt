@@ -10,12 +10,14 @@ impl fmt::Display for Cause {
     ghost output = { λ cause. Some (cause_words cause) };
 
     fn fmt<W: fmt::Write>(&self, f: &mut fmt::Formatter<W>) -> fmt::Result {
-        f.write_str(match self {
-            Cause::UnknownLetter => "cause 1, unknown letter",
-            Cause::CutShort => "cause 2, cut short",
-            Cause::OutOfRange => "cause 3, operand out of range",
-            Cause::OutOfPlace => "cause 4, out of place",
-        })
+        let number = u8::from(*self);
+        let words = match self {
+            Cause::UnknownLetter => "unknown letter",
+            Cause::CutShort => "cut short",
+            Cause::OutOfRange => "operand out of range",
+            Cause::OutOfPlace => "out of place",
+        };
+        write!(f, "cause {number}, {words}")
     }
 }
 
