@@ -1,11 +1,10 @@
 -- The rows of a pair and a kind stand together.
-use Rattle.std.proofs.Common.{◌≡◌, ℕ, zero, suc, ◌+◌, ◌-◌, ◌<◌, ◌≤◌, Bool, true, false, cond, ◌&&◌, ltb, List, [], ◌∷◌, ◌++◌, length, get_or, take, drop, Some, None, Option, sym, refl, ap, ◌∙◌, subst, ⊎_elim, add-zero, arith}
+use Rattle.std.proofs.Common.{◌≡◌, ℕ, zero, suc, ◌+◌, ◌<◌, ◌≤◌, Bool, true, false, cond, ◌&&◌, List, [], ◌∷◌, ◌++◌, length, get_or, take, drop, Some, None, Option, sym, refl, ap, ◌∙◌, subst, arith}
 use Rattle.std.specs.List.{slice_get, AllByRecursion}
-use Rattle.std.proofs.ByRecursion.{All-weaker, All-take, All-drop, All-get_or}
-use Rattle.std.proofs.lemmas.List.{append-nil, length-take-le, length-drop, take-append-drop, drop-drop, get_or-take, get_or-drop}
-use Rattle.std.proofs.lemmas.Slice.{between_is}
+use Rattle.std.proofs.ByRecursion.{All-weaker, All-take}
+use Rattle.std.proofs.lemmas.List.{append-nil, length-take-le, length-drop, take-append-drop}
 use Rattle.std.proofs.lemmas.Option.{slice_get_past}
-use Rattle.std.proofs.lemmas.Bool.{both_ways, and_parts, cases_lt}
+use Rattle.std.proofs.lemmas.Bool.{both_ways, and_parts}
 use Rattle.register.specs.declared.pairs.Pair.{Pair}
 use Rattle.register.specs.Folders.{same, same_kind, rows_of}
 use Rattle.rows.specs.Kinds.{rank_of}
@@ -13,11 +12,10 @@ use Rattle.rows.specs.Rows.{kind_of_row}
 use Rattle.rows.specs.declared.kinds.Kind.{Kind}
 use Rattle.rows.specs.declared.row.Row.{Row}
 use Rattle.ordered.specs.declared.entries.Entry.{Entry}
-use Rattle.ordered.specs.Keys.{start_in, key_of, lower, key_at, Before, NotBefore}
-use Rattle.ordered.specs.Order.{entry, earlier_less}
+use Rattle.ordered.specs.Keys.{start_in, key_at, Before, NotBefore}
 use Rattle.ordered.specs.Entries.{folders_of, in_order, Part}
 use Rattle.ordered.proofs.Meanings.{counted, rows_in, rows_are}
-use Rattle.ordered.proofs.Probes.{lower_inner, lower_onward, of_kind, in_part, before_part, behind_part, within_part}
+use Rattle.ordered.proofs.Probes.{of_kind, in_part, before_part, behind_part, within_part}
 
 counted_append : (here : Bool) (k : Kind) (o : Option Row) (rs ss : List Row) → counted here k o (rs ++ ss) ≡ counted here k o rs ++ ss
 counted_append here k None rs ss = refl
@@ -111,30 +109,14 @@ module _ (p : Pair) (k : Kind) (xs : List Entry) (from count : ℕ) (part : Part
     pub read_none : (i : ℕ) → length (take count (drop from xs)) ≤ i → None ≡ slice_get (rows_of p (folders_of xs) k) i
     read_none i l = sym (slice_get_past (rows_of p (folders_of xs) k) i (omega (arith, count_is, length_mid p k 0 xs from count part)))
 
--- what two searches find: the part's first place, and the place behind it
-module _ (p : Pair) (k : Kind) (day : ℕ) (xs : List Entry) (level from to : ℕ) (is : level ≡ suc (rank_of k)) (early : from ≤ length xs) (late : to ≤ length xs) (before : AllByRecursion (Before (key_at p level day)) (take from xs)) (behind : AllByRecursion (NotBefore (key_at p level day)) (drop from xs)) (upto : AllByRecursion (Before (key_at p (level + 1) 0)) (take to xs)) (past : AllByRecursion (NotBefore (key_at p (level + 1) 0)) (drop to xs)) where
-  pub ends : from ≤ to
-  ends =
-      ⊎_elim
-      (λ l.
-      let e = get_or xs to (entry p None) in
-      let a : Before (key_at p level day) e = subst (Before (key_at p level day)) (get_or-take from xs to (entry p None) l) (All-get_or (Before (key_at p level day)) (take from xs) to (entry p None) (omega (arith, length-take-le from xs early)) before) in
-      let b : NotBefore (key_at p (level + 1) 0) e = subst (λ (i : ℕ). NotBefore (key_at p (level + 1) 0) (get_or xs i (entry p None))) (add-zero to) (subst (NotBefore (key_at p (level + 1) 0)) (get_or-drop to xs 0 (entry p None)) (All-get_or (NotBefore (key_at p (level + 1) 0)) (drop to xs) 0 (entry p None) (omega (arith, length-drop to xs)) past)) in
-      absurd
-      (both_ways (lower (key_of e) (key_at p (level + 1) 0)) b
-      (lower_onward (key_of e) (key_at p level day) (key_at p (level + 1) 0) a
-      (lower_inner (key_at p level day) (key_at p (level + 1) 0) refl (earlier_less level (level + 1) (ltb day 0) (omega arith))))))
-      (λ l. l) (cases_lt to from)
-
-  pub parted : Part p k day xs from (to - from)
-  parted =
-      let l = ends in
-      let next : level + 1 ≡ suc (suc (rank_of k)) = omega arith in
-      let whole : from + (to - from) ≡ to = omega arith in
-      record {
-        within = omega arith;
-        before = subst (λ (n : ℕ). AllByRecursion (Before (key_at p n day)) (take from xs)) is before;
-        among = All-take (NotBefore (key_at p (suc (rank_of k)) day)) (to - from) (drop from xs) (subst (λ (n : ℕ). AllByRecursion (NotBefore (key_at p n day)) (drop from xs)) is behind);
-        upto = subst (AllByRecursion (Before (key_at p (suc (suc (rank_of k))) 0))) (sym (between_is xs from to)) (All-drop (Before (key_at p (suc (suc (rank_of k))) 0)) from (take to xs) (subst (λ (n : ℕ). AllByRecursion (Before (key_at p n 0)) (take to xs)) next upto));
-        behind = subst (AllByRecursion (NotBefore (key_at p (suc (suc (rank_of k))) 0))) (sym (drop-drop (to - from) from xs ∙ ap (λ i. drop i xs) whole)) (subst (λ (n : ℕ). AllByRecursion (NotBefore (key_at p n 0)) (drop to xs)) next past);
-      }
+-- what two searches find: the part's first place, and among the entries from there on how many it has
+pub parted : (p : Pair) (k : Kind) (day : ℕ) (xs : List Entry) (from count level : ℕ) → level ≡ suc (rank_of k) → from ≤ length xs → AllByRecursion (Before (key_at p level day)) (take from xs) → AllByRecursion (NotBefore (key_at p level day)) (drop from xs) → count ≤ length (drop from xs) → AllByRecursion (Before (key_at p (level + 1) 0)) (take count (drop from xs)) → AllByRecursion (NotBefore (key_at p (level + 1) 0)) (drop count (drop from xs)) → Part p k day xs from count
+parted p k day xs from count level e within before behind few upto past =
+    let next : level + 1 ≡ suc (suc (rank_of k)) = omega arith in
+    record {
+      within = omega (arith, few, length-drop from xs);
+      before = subst (λ (n : ℕ). AllByRecursion (Before (key_at p n day)) (take from xs)) e before;
+      among = All-take (NotBefore (key_at p (suc (rank_of k)) day)) count (drop from xs) (subst (λ (n : ℕ). AllByRecursion (NotBefore (key_at p n day)) (drop from xs)) e behind);
+      upto = subst (λ (n : ℕ). AllByRecursion (Before (key_at p n 0)) (take count (drop from xs))) next upto;
+      behind = subst (λ (n : ℕ). AllByRecursion (NotBefore (key_at p n 0)) (drop count (drop from xs))) next past;
+    }

@@ -50,10 +50,10 @@ ascends_at (x ∷ xs) a zero (suc j) d h l = All-get_or (λ y. lower (key_of x) 
 ascends_at (x ∷ xs) a (suc i) (suc j) d h l = ascends_at xs a.1 i j d (omega arith) (omega arith)
 
 -- the entries that `partition_point` finds to pass a test, in front, and the rest
-module _ (xs : List Entry) (h : in_order xs ≡ true) (test : Entry → Bool) (front : (e x : Entry) → lower (key_of e) (key_of x) ≡ true → test x ≡ true → test e ≡ true) where
+module _ (xs : List Entry) (h : Ascends xs) (test : Entry → Bool) (front : (e x : Entry) → lower (key_of e) (key_of x) ≡ true → test x ≡ true → test e ≡ true) where
   partitioned : IsPartitionedBy test xs
   partitioned i j d le l t =
-      ⊎_elim (λ lt. front (get_or xs i d) (get_or xs j d) (ascends_at xs (ascends xs h) i j d lt l) t)
+      ⊎_elim (λ lt. front (get_or xs i d) (get_or xs j d) (ascends_at xs h i j d lt l) t)
       (λ ge. let e : j ≡ i = omega arith in subst (λ (k : ℕ). test (get_or xs k d) ≡ true) e t)
       (cases_lt i j)
 

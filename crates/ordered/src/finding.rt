@@ -35,8 +35,9 @@ impl<'a> Sorted<'a> {
             start: 0,
         };
         let from = self.entries.partition_point(|entry| entry.key() < first);
-        let to = self.entries.partition_point(|entry| entry.key() < next);
-        from..to
+        let behind = &self.entries[from..];
+        let count = behind.partition_point(|entry| entry.key() < next);
+        from..from + count
     }
 
     // How many rows of a kind a folder has.
